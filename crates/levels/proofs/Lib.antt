@@ -1,1 +1,8 @@
 pub mod Searches
+pub mod OrderLaws
+pub mod Examples
+mod BitSets
+mod TagLaws
+mod PairLaws
+mod RankLaws
+mod Exact
