@@ -1,2 +1,4 @@
 pub mod Cutting
 pub mod Numerals
+pub mod Gathering
+pub mod Pairing

@@ -1,4 +1,6 @@
 //! Scenario scripts: the text of a script, its commands, and the transcript.
+pub mod hex;
 pub mod number;
+pub mod parts;
 pub mod pieces;
 pub mod words;
