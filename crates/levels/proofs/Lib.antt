@@ -1,1 +1,9 @@
 pub mod Searches
+pub mod OrderLaws
+pub mod Examples
+mod BitSets
+mod TagLaws
+mod PairLaws
+mod EitherLaws
+mod RankLaws
+mod Exact

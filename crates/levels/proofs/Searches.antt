@@ -2,14 +2,14 @@
 use mathlib.Core.Path.{_≡_, refl, sym, ap, ap₂, _∙_, subst}
 use mathlib.Core.Bool.{Bool, true, false, _&&_, cond}
 use mathlib.Core.Logic.{inl, inr, ⊎-elim, _⊎_}
-use Prim.Native.Nat.{ℕ, zero, suc, _+_, _<_}
+use Prim.Native.Nat.{ℕ, zero, suc, _+_, _<_, _≤_}
 use native.Mathlib.Nat.{not-suc-le-zero}
 use native.Mathlib.Numerals.{add-one}
 use native.Mathlib.Omega.{arith}
 use Rattle.std.specs.declared.option.Option.{Option}
 use Rattle.std.specs.declared.option.Option.the-variants.{Some, None}
 use Rattle.std.specs.Options.{isSome, valueOr}
-use Rattle.std.proofs.shelf.Tests.{and-parts, and-from, and-left, and-right, false≢true}
+use Rattle.std.proofs.shelf.Tests.{and-parts, and-from, and-left, and-right, both-ways, cases-bool, false≢true, true≢false}
 use Rattle.levels.specs.Search.{every, lowest, or-else, when}
 
 module _ (f : ℕ → Bool) where
@@ -17,7 +17,7 @@ module _ (f : ℕ → Bool) where
   unfolding every
   every-more i h here = rw (add-one) (and-from _ _ h here)
 
-  last-or-before : (i n : ℕ) → i < suc n → (i < n) ⊎ (i ≡ n)
+  pub last-or-before : (i n : ℕ) → i < suc n → (i < n) ⊎ (i ≡ n)
   last-or-before i n h = grind arith
 
   pub every-at : (n i : ℕ) → every n f ≡ true → i < n → f i ≡ true
@@ -41,7 +41,7 @@ module _ (f : ℕ → Bool) where
   unfolding lowest
   lowest-found zero i k h here = absurd (not-suc-le-zero k)
   lowest-found (suc n) i k h here =
-      ⊎-elim (λ b. ap (λ o. or-else o (cond (f n) (Some n) None)) (lowest-found n i b h here))
+      ⊎-elim (λ b. ap (λ o. or-else o (when (f n) n)) (lowest-found n i b h here))
       (λ e. ap₂ or-else (ap (λ m. lowest m f) (sym e) ∙ h) (ap (λ m. cond (f m) (Some m) None) (sym e) ∙ ap (λ b. cond b (Some i) None) here))
       (last-or-before i n k)
 
@@ -51,8 +51,8 @@ module _ (f : ℕ → Bool) where
   lowest-passes zero d h = absurd (false≢true h)
   lowest-passes (suc n) d h = next (lowest n f) (lowest-passes n d) h
     where
-      next : (o : Option ℕ) → (isSome o ≡ true → f (valueOr o d) ≡ true) → isSome (or-else o (cond (f n) (Some n) None)) ≡ true
-          → f (valueOr (or-else o (cond (f n) (Some n) None)) d) ≡ true
+      next : (o : Option ℕ) → (isSome o ≡ true → f (valueOr o d) ≡ true) → isSome (or-else o (when (f n) n)) ≡ true
+          → f (valueOr (or-else o (when (f n) n)) d) ≡ true
       next (Some x) k g = k refl
       next None k g = elim (f n) as (λ b. f n ≡ b → isSome (cond b (Some n) None) ≡ true → f (valueOr (cond b (Some n) None) d) ≡ true)
           [ true ↦ (λ e _. e) | false ↦ (λ _ z. absurd (false≢true z)) ] refl g
@@ -62,8 +62,8 @@ module _ (f : ℕ → Bool) where
   lowest-below zero d h = absurd (false≢true h)
   lowest-below (suc n) d h = next (lowest n f) (lowest-below n d) h
     where
-      next : (o : Option ℕ) → (isSome o ≡ true → valueOr o d < n) → isSome (or-else o (cond (f n) (Some n) None)) ≡ true
-          → valueOr (or-else o (cond (f n) (Some n) None)) d < suc n
+      next : (o : Option ℕ) → (isSome o ≡ true → valueOr o d < n) → isSome (or-else o (when (f n) n)) ≡ true
+          → valueOr (or-else o (when (f n) n)) d < suc n
       next (Some x) k g = let b : x < n = k refl in omega arith
       next None k g = elim (f n) as (λ b. isSome (cond b (Some n) None) ≡ true → valueOr (cond b (Some n) None) d < suc n)
           [ true ↦ (λ _. omega arith) | false ↦ (λ z. absurd (false≢true z)) ] g
@@ -84,10 +84,33 @@ module _ (f : ℕ → Bool) where
   lowest-some (suc n) i k h =
       ⊎-elim (λ b. kept (lowest n f) (lowest-some n i b h)) (λ e. here (lowest n f) (ap f (sym e) ∙ h)) (last-or-before i n k)
     where
-      kept : (o : Option ℕ) → isSome o ≡ true → isSome (or-else o (cond (f n) (Some n) None)) ≡ true
+      kept : (o : Option ℕ) → isSome o ≡ true → isSome (or-else o (when (f n) n)) ≡ true
       kept (Some x) g = refl
       kept None g = absurd (false≢true g)
 
-      here : (o : Option ℕ) → f n ≡ true → isSome (or-else o (cond (f n) (Some n) None)) ≡ true
+      here : (o : Option ℕ) → f n ≡ true → isSome (or-else o (when (f n) n)) ≡ true
       here (Some x) g = refl
       here None g = ap (λ b. isSome (cond b (Some n) None)) g
+
+  -- where none is found, the test passes nowhere, and the other way round
+  pub nowhere : (n i : ℕ) → isSome (lowest n f) ≡ false → i < n → f i ≡ false
+  nowhere n i h k = ⊎-elim (λ t. absurd (both-ways _ h (lowest-some n i k t))) (λ e. e) (cases-bool (f i))
+
+  pub nowhere-from : (n : ℕ) → ((i : ℕ) → i < n → f i ≡ false) → isSome (lowest n f) ≡ false
+  unfolding lowest
+  nowhere-from zero h = refl
+  nowhere-from (suc n) h = next (lowest n f) (nowhere-from n (λ i k. h i (omega arith))) (h n (omega arith))
+    where
+      next : (o : Option ℕ) → isSome o ≡ false → f n ≡ false → isSome (or-else o (when (f n) n)) ≡ false
+      next (Some x) g e = g
+      next None g e = ap (λ b. isSome (when b n)) e
+
+  pub lowest-at-most : (n : ℕ) → valueOr (lowest n f) 0 ≤ n
+  lowest-at-most n = ⊎-elim (λ h. le-of-lt (lowest-below n 0 h)) (λ h. none (lowest n f) h) (cases-bool (isSome (lowest n f)))
+    where
+      le-of-lt : {m : ℕ} → m < n → m ≤ n
+      le-of-lt h = omega arith
+
+      none : (o : Option ℕ) → isSome o ≡ false → valueOr o 0 ≤ n
+      none (Some x) g = absurd (true≢false g)
+      none None g = omega arith

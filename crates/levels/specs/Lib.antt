@@ -1,2 +1,10 @@
 pub mod Search
 pub mod Refusals
+pub mod Order
+pub mod Tags
+pub mod Pair
+pub mod Either
+pub mod Marks
+pub mod Bounds
+pub mod Tables
+pub mod Examples

@@ -1,0 +1,4 @@
+pub mod Book
+pub mod Lists
+pub mod Limited
+pub mod Made
