@@ -3,3 +3,5 @@ pub mod Words
 pub mod Numbers
 pub mod Hex
 pub mod Parts
+pub mod Transcripts
+pub mod Spelled

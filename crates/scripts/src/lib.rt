@@ -3,4 +3,6 @@ pub mod hex;
 pub mod number;
 pub mod parts;
 pub mod pieces;
+pub mod spelled;
+pub mod transcript;
 pub mod words;
