@@ -2,3 +2,4 @@ pub mod Cutting
 pub mod Numerals
 pub mod Gathering
 pub mod Pairing
+mod Texts
