@@ -3,4 +3,6 @@ pub mod hex;
 pub mod number;
 pub mod parts;
 pub mod pieces;
+#[cfg(test)]
+mod tests;
 pub mod words;
