@@ -1,5 +1,8 @@
 //! The digits of a text and the number that a word writes.
 ghost use mathlib.Core.Path.{_≡_};
+ghost use Prim.Native.Nat.{ℕ, _<_};
+ghost use Rattle.std.specs.Written.{decimal};
+ghost use Rattle.std.specs.declared.option.Option.the-variants.{Some};
 ghost use Rattle.scripts.specs.Numbers.{radix, digit-of, digits-of, written, numeral-of, number-of};
 
 /// The base that a number is written in.
@@ -65,7 +68,8 @@ fn numeral(text: &[u8], base: Base) -> Option<u32>
 
 /// The number that a word writes: decimal, or hexadecimal after `0x`, and at most 4294967295.
 pub fn number(word: &[u8]) -> Option<u32>
-    ensures { λ r. ⌜ r ≡ number-of (now (word .entry)) ⌝ }
+    ensures value { λ r. ⌜ r ≡ number-of (now (word .entry)) ⌝ }
+    ensures back { λ r. ⌜ ((n : ℕ) → n < 4294967296 → now (word .entry) ≡ decimal n → r ≡ Some n) ⌝ }
 {
     if word.len() >= 2 && word[0] == b'0' && word[1] == b'x' {
         return numeral(&word[2..], Base::Sixteen);

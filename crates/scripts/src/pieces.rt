@@ -5,7 +5,7 @@ ghost use lib.ListN.{drop};
 ghost use Rattle.std.specs.Options.{mapped};
 ghost use Rattle.std.specs.shelf.Lists.{leading};
 ghost use Rattle.std.specs.shelf.Maps.{nth};
-ghost use Rattle.scripts.specs.Pieces.{pieces-of, pieces-after, pieces-left, other};
+ghost use Rattle.scripts.specs.Pieces.{pieces-of, pieces-after, pieces-left, Cuts, other};
 
 /// The pieces of a text that are still to come.
 #[derive(Drop)]
@@ -42,7 +42,8 @@ pub fn cut<'a>(text: &'a [u8], mark: u8) -> (&'a [u8], Option<&'a [u8]>)
 impl<'a> Pieces<'a> {
     /// All pieces of a text.
     pub fn new(text: &'a [u8], mark: u8) -> Pieces<'a>
-        ensures { λ r. ⌜ pieces-left r ≡ pieces-of mark (now (text .entry)) ⌝ }
+        ensures pieces { λ r. ⌜ pieces-left r ≡ pieces-of mark (now (text .entry)) ⌝ }
+        ensures cuts { λ r. ⌜ Cuts mark (pieces-left r) (now (text .entry)) ⌝ }
     {
         Pieces {
             mark,
