@@ -1,7 +1,7 @@
 -- How the number so far grows by a digit, and that a number too large stays too large. Assumes nothing.
 use mathlib.Core.Path.{_≡_, refl, sym, ap, ap₂, _∙_}
 use mathlib.Core.List.{List, [], _∷_, map}
-use mathlib.Core.Bool.{false}
+use mathlib.Core.Bool.{true, false}
 use borrow.Author.Needs.{needs}
 use Prim.Native.Nat.{ℕ, zero, suc, _+_, _*_, _<_, _≤_}
 use native.Mathlib.Omega.{arith}
@@ -13,13 +13,14 @@ use Rattle.std.specs.Options.{mapped}
 use Rattle.std.specs.shelf.Digits.{numberAfter}
 use Rattle.std.proofs.shelf.Digits.{numberAfter-ge}
 use Rattle.std.proofs.shelf.Lists.{at-drop-more}
-use Rattle.std.proofs.shelf.Tests.{le-ltb, lt-ltb, ne-eqb, and-left, cond-true, cond-false}
+use Rattle.std.proofs.shelf.Tests.{ltb-true, ltb-false, le-ltb, lt-ltb, ne-eqb, and-left, cond-true, cond-false}
 use Rattle.std.proofs.shelf.Digits.{value-is}
 use Rattle.std.proofs.shelf.Numerals.{digit-from-value}
 use Rattle.std.proofs.shelf.Decimals.{decimal-digit, decimal-reads, first-decimal}
 use Rattle.std.specs.Reads.{value, Digits}
 use Rattle.std.specs.Text.{digitValue}
 use Rattle.std.specs.Written.{decimal}
+use Rattle.levels.specs.Search.{when}
 use Rattle.scripts.specs.declared.number.Base.{Base}
 use Rattle.scripts.specs.declared.number.Base.the-variants.{Ten, Sixteen}
 use Rattle.scripts.specs.Numbers.{radix, below, before, digit-of, digits-of, written, numeral-of, prefixed, number-of}
@@ -32,6 +33,15 @@ radix-some Sixteen = omega arith
 pub longer-fits : (base : Base) (v r d : ℕ) → r ≡ radix base → v < 4294967296 → d < 256 → v * r + d < 18446744073709551616
 longer-fits Ten v r d e a b = rw e (omega arith)
 longer-fits Sixteen v r d e a b = rw e (omega arith)
+
+-- what `below` tells
+pub below-none : (most n : ℕ) → None ≡ below most (Some n) → most ≤ n
+below-none most n e = elim (ltb n most) as (λ b. ltb n most ≡ b → None ≡ when b n → most ≤ n)
+    [ true ↦ (λ _ k. let z : _≡_ {A = ℕ} 0 1 = cc in absurd (omega arith)) | false ↦ (λ t _. ltb-false n most t) ] refl e
+
+pub below-some : (most n v : ℕ) → Some v ≡ below most (Some n) → (v ≡ n) × (v < most)
+below-some most n v e = elim (ltb n most) as (λ b. ltb n most ≡ b → Some v ≡ when b n → (v ≡ n) × (v < most))
+    [ true ↦ (λ t k. let same : v ≡ n = cc in (same, omega (arith, ltb-true n most t))) | false ↦ (λ t k. let z : _≡_ {A = ℕ} 0 1 = cc in absurd (omega arith)) ] refl e
 
 module _ (base : Base) (text : List ℕ) (i v : ℕ) (h : i < length text) where
   pub digits-more : (d : ℕ) → Some d ≡ digit-of base (getD text i 0)

@@ -1,9 +1,9 @@
 //! The digits of a text and the number that a word writes.
 ghost use mathlib.Core.Path.{_≡_};
-ghost use Prim.Native.Nat.{ℕ, _<_};
+ghost use Prim.Native.Nat.{ℕ, _+_, _*_, _<_};
 ghost use Rattle.std.specs.Written.{decimal};
 ghost use Rattle.std.specs.declared.option.Option.the-variants.{Some};
-ghost use Rattle.scripts.specs.Numbers.{radix, digit-of, digits-of, written, numeral-of, number-of};
+ghost use Rattle.scripts.specs.Numbers.{radix, below, digit-of, digits-of, written, numeral-of, number-of};
 
 /// The base that a number is written in.
 #[derive(Clone, Copy, PartialEq, Eq, Debug)]
@@ -40,6 +40,23 @@ pub fn digit(byte: u8, base: Base) -> Option<u8>
     }
 }
 
+// A number that has 32 bits.
+fn fit(n: u64) -> Option<u32>
+    ensures { λ r. ⌜ r ≡ below 4294967296 (Some n) ⌝ }
+{
+    if n > 4294967295 {
+        return None;
+    }
+    Some(n as u32)
+}
+
+// A number with one digit more.
+fn longer(value: u32, base: Base, one: u8) -> Option<u32>
+    ensures { λ r. ⌜ r ≡ below 4294967296 (Some (value * radix base + one)) ⌝ }
+{
+    fit(u64::from(value) * u64::from(base.radix()) + u64::from(one))
+}
+
 // The number that the digits of a text write, 0 where there is none.
 fn digits(text: &[u8], base: Base) -> Option<u32>
     ensures { λ r. ⌜ r ≡ written base (digits-of base (now (text .entry))) ⌝ }
@@ -47,11 +64,7 @@ fn digits(text: &[u8], base: Base) -> Option<u32>
     let mut value: u32 = 0;
     for byte in text {
         let one = digit(*byte, base)?;
-        let longer = u64::from(value) * u64::from(base.radix()) + u64::from(one);
-        if longer > 4294967295 {
-            return None;
-        }
-        value = longer as u32;
+        value = longer(value, base, one)?;
     }
     Some(value)
 }
