@@ -10,9 +10,11 @@ use lib.Dec.{eqb}
 use lib.ListN.{length, take, drop}
 use Rattle.std.specs.declared.option.Option.the-variants.{Some, None}
 use Rattle.std.specs.shelf.Lists.{leading}
+use Rattle.std.specs.Vec.{Every}
+use Rattle.std.proofs.shelf.Tests.{eqb-true, eqb-false}
 use Rattle.std.specs.shelf.Maps.{nth}
 use Rattle.std.proofs.shelf.Lists.{take-all, take-rest}
-use Rattle.scripts.specs.Pieces.{onto, pieces-of, other}
+use Rattle.scripts.specs.Pieces.{onto, pieces-of, with-marks, Cuts, other}
 
 -- the pieces after the first mark
 abbrev pub following : ℕ → List ℕ → List (List ℕ)
@@ -51,3 +53,35 @@ module _ (mark : ℕ) where
   cut-end xs n e h =
       let k : length xs ≤ leading (other mark) xs = omega arith in
       cut xs ∙ ap₂ (λ a b. a ∷ b) (take-all _ xs k) (following-end xs k)
+
+  -- the law of the pieces
+  whole-onto : (x : ℕ) (p : List ℕ) (ps : List (List ℕ)) → with-marks mark (onto x (p ∷ ps)) ≡ x ∷ with-marks mark (p ∷ ps)
+  whole-onto x p [] = refl
+  whole-onto x p (q ∷ ps) = refl
+
+  whole : (xs : List ℕ) → with-marks mark (pieces-of mark xs) ≡ xs
+  whole [] = refl
+  whole (x ∷ xs) = elim (eqb x mark)
+      as (λ b. eqb x mark ≡ b → with-marks mark (cond b ([] ∷ pieces-of mark xs) (onto x (pieces-of mark xs))) ≡ x ∷ xs) [
+        | true ↦ (λ e. ap (λ l. with-marks mark ([] ∷ l)) (cut xs) ∙ ap₂ (λ y l. y ∷ l) (sym (eqb-true x mark e)) (ap (with-marks mark) (sym (cut xs)) ∙ whole xs))
+        | false ↦ (λ e. ap (λ l. with-marks mark (onto x l)) (cut xs) ∙ whole-onto x _ _ ∙ ap (λ l. x ∷ l) (ap (with-marks mark) (sym (cut xs)) ∙ whole xs))
+      ] refl
+
+  Clean : List (List ℕ) → Type 0
+  Clean ps = Every (λ p. Every (λ x. x ≡ mark → ⊥) p) ps
+
+  clean-onto : (x : ℕ) (ps : List (List ℕ)) → (x ≡ mark → ⊥) → Clean ps → Clean (onto x ps)
+  unfolding Clean
+  clean-onto x [] n h = ((n, tt), tt)
+  clean-onto x (p ∷ ps) n h = ((n, h .0), h .1)
+
+  clean : (xs : List ℕ) → Clean (pieces-of mark xs)
+  unfolding Clean
+  clean [] = (tt, tt)
+  clean (x ∷ xs) = elim (eqb x mark)
+      as (λ b. eqb x mark ≡ b → Clean (cond b ([] ∷ pieces-of mark xs) (onto x (pieces-of mark xs))))
+      [ true ↦ (λ _. (tt, clean xs)) | false ↦ (λ e. clean-onto x (pieces-of mark xs) (eqb-false x mark e) (clean xs)) ] refl
+
+  pub cuts : (xs : List ℕ) → Cuts mark (pieces-of mark xs) xs
+  unfolding Clean
+  cuts xs = record { whole = whole xs; clean = clean xs }

@@ -3,7 +3,7 @@ use mathlib.Core.Bool.{Bool, true, false}
 use mathlib.Core.List.{List, [], _∷_}
 use Prim.Native.Nat.{ℕ}
 use Rattle.std.specs.shelf.Lists.{kept-by}
-use Rattle.scripts.specs.Pieces.{pieces-of, pieces-left, other}
+use Rattle.scripts.specs.Pieces.{pieces-of, other}
 use Rattle.scripts.specs.declared.words.Words.{Words}
 
 abbrev pub some-bytes : List ℕ → Bool
@@ -20,4 +20,4 @@ unspaced text = kept-by (other 32) text
 
 -- the words that are still to come
 abbrev pub words-left : Words → List (List ℕ)
-words-left w = kept-by some-bytes (pieces-left (w .pieces))
+words-left w = words-of (w .rest .now)

@@ -2,7 +2,7 @@
 ghost use mathlib.Core.Bool.{true};
 ghost use mathlib.Core.List.{List, _∷_, _++_};
 ghost use mathlib.Core.Path.{_≡_};
-ghost use Prim.Native.Nat.{ℕ, _<_};
+ghost use Prim.Native.Nat.{ℕ, _+_, _*_, _<_};
 ghost use lib.ListN.{length, take};
 ghost use Rattle.std.specs.Of.Vec.{vec-items, vec-len};
 ghost use Rattle.std.specs.declared.option.Option.the-variants.{Some};
@@ -42,6 +42,14 @@ fn count(text: &[u8]) -> Option<usize>
     Some(count)
 }
 
+// The byte that two digits write.
+fn byte_of(high: u8, low: u8) -> u8
+    requires { ⌜ high < 16 ⌝ ∗ ⌜ low < 16 ⌝ }
+    ensures { λ r. ⌜ r ≡ 16 * high + low ⌝ }
+{
+    16 * high + low
+}
+
 // Takes one digit more after the half of a byte that waits, if one does, and gives the half that waits then.
 fn put(list: &mut Vec<u8>, half: Option<u8>, low: u8) -> Result<Option<u8>, HexFault>
     requires waits { ⌜ found half (λ h. h < 16) ⌝ }
@@ -51,7 +59,7 @@ fn put(list: &mut Vec<u8>, half: Option<u8>, low: u8) -> Result<Option<u8>, HexF
 {
     match half {
         None => Ok(Some(low)),
-        Some(high) => match list.push(16 * high + low) {
+        Some(high) => match list.push(byte_of(high, low)) {
             Ok(()) => Ok(None),
             Err(_) => Err(HexFault::Memory),
         },

@@ -1,8 +1,12 @@
 //! Scenario scripts: the text of a script, its commands, and the transcript.
+pub mod fault;
 pub mod hex;
 pub mod number;
 pub mod parts;
 pub mod pieces;
+pub mod shape;
 pub mod spelled;
+#[cfg(test)]
+mod tests;
 pub mod transcript;
 pub mod words;

@@ -1,6 +1,9 @@
 //! The digits of a text and the number that a word writes.
 ghost use mathlib.Core.Path.{_≡_};
-ghost use Rattle.scripts.specs.Numbers.{radix, digit-of, digits-of, written, numeral-of, number-of};
+ghost use Prim.Native.Nat.{ℕ, _+_, _*_, _<_};
+ghost use Rattle.std.specs.Written.{decimal};
+ghost use Rattle.std.specs.declared.option.Option.the-variants.{Some};
+ghost use Rattle.scripts.specs.Numbers.{radix, below, digit-of, digits-of, written, numeral-of, number-of};
 
 /// The base that a number is written in.
 #[derive(Clone, Copy, PartialEq, Eq, Debug)]
@@ -37,6 +40,23 @@ pub fn digit(byte: u8, base: Base) -> Option<u8>
     }
 }
 
+// A number that has 32 bits.
+fn fit(n: u64) -> Option<u32>
+    ensures { λ r. ⌜ r ≡ below 4294967296 (Some n) ⌝ }
+{
+    if n > 4294967295 {
+        return None;
+    }
+    Some(n as u32)
+}
+
+// A number with one digit more.
+fn longer(value: u32, base: Base, one: u8) -> Option<u32>
+    ensures { λ r. ⌜ r ≡ below 4294967296 (Some (value * radix base + one)) ⌝ }
+{
+    fit(u64::from(value) * u64::from(base.radix()) + u64::from(one))
+}
+
 // The number that the digits of a text write, 0 where there is none.
 fn digits(text: &[u8], base: Base) -> Option<u32>
     ensures { λ r. ⌜ r ≡ written base (digits-of base (now (text .entry))) ⌝ }
@@ -44,11 +64,7 @@ fn digits(text: &[u8], base: Base) -> Option<u32>
     let mut value: u32 = 0;
     for byte in text {
         let one = digit(*byte, base)?;
-        let longer = u64::from(value) * u64::from(base.radix()) + u64::from(one);
-        if longer > 4294967295 {
-            return None;
-        }
-        value = longer as u32;
+        value = longer(value, base, one)?;
     }
     Some(value)
 }
@@ -65,7 +81,8 @@ fn numeral(text: &[u8], base: Base) -> Option<u32>
 
 /// The number that a word writes: decimal, or hexadecimal after `0x`, and at most 4294967295.
 pub fn number(word: &[u8]) -> Option<u32>
-    ensures { λ r. ⌜ r ≡ number-of (now (word .entry)) ⌝ }
+    ensures value { λ r. ⌜ r ≡ number-of (now (word .entry)) ⌝ }
+    ensures back { λ r. ⌜ ((n : ℕ) → n < 4294967296 → now (word .entry) ≡ decimal n → r ≡ Some n) ⌝ }
 {
     if word.len() >= 2 && word[0] == b'0' && word[1] == b'x' {
         return numeral(&word[2..], Base::Sixteen);

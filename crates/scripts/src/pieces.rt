@@ -1,11 +1,13 @@
 //! A text cut at each mark: a script into lines, a line into words, a level into numbers.
 ghost use mathlib.Core.Path.{_≡_};
 ghost use mathlib.Core.List.{_∷_};
-ghost use lib.ListN.{drop};
+ghost use Prim.Native.Nat.{_<_};
+ghost use lib.ListN.{length, drop};
 ghost use Rattle.std.specs.Options.{mapped};
+ghost use Rattle.std.specs.Slices.{found};
 ghost use Rattle.std.specs.shelf.Lists.{leading};
 ghost use Rattle.std.specs.shelf.Maps.{nth};
-ghost use Rattle.scripts.specs.Pieces.{pieces-of, pieces-after, pieces-left, other};
+ghost use Rattle.scripts.specs.Pieces.{pieces-of, pieces-after, pieces-left, Cuts, other};
 
 /// The pieces of a text that are still to come.
 #[derive(Drop)]
@@ -29,7 +31,8 @@ fn until(text: &[u8], mark: u8) -> usize
 
 /// The first piece, and what follows its mark where there is one.
 pub fn cut<'a>(text: &'a [u8], mark: u8) -> (&'a [u8], Option<&'a [u8]>)
-    ensures { λ r. ⌜ pieces-of mark (now (text .entry)) ≡ now (r .0) ∷ pieces-after mark (mapped now (r .1)) ⌝ }
+    ensures pieces { λ r. ⌜ pieces-of mark (now (text .entry)) ≡ now (r .0) ∷ pieces-after mark (mapped now (r .1)) ⌝ }
+    ensures shorter { λ r. ⌜ found (r .1) (λ rest. length (now rest) < length (now (text .entry))) ⌝ }
 {
     let end = until(text, mark);
     if end < text.len() {
@@ -42,7 +45,8 @@ pub fn cut<'a>(text: &'a [u8], mark: u8) -> (&'a [u8], Option<&'a [u8]>)
 impl<'a> Pieces<'a> {
     /// All pieces of a text.
     pub fn new(text: &'a [u8], mark: u8) -> Pieces<'a>
-        ensures { λ r. ⌜ pieces-left r ≡ pieces-of mark (now (text .entry)) ⌝ }
+        ensures pieces { λ r. ⌜ pieces-left r ≡ pieces-of mark (now (text .entry)) ⌝ }
+        ensures cuts { λ r. ⌜ Cuts mark (pieces-left r) (now (text .entry)) ⌝ }
     {
         Pieces {
             mark,

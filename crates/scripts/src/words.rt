@@ -6,13 +6,12 @@ ghost use Rattle.std.specs.shelf.Maps.{nth};
 ghost use Rattle.std.specs.declared.option.Option.the-variants.{Some};
 ghost use Rattle.scripts.specs.Pieces.{pieces-of};
 ghost use Rattle.scripts.specs.Words.{words-of, words-left};
-use crate::pieces::Pieces;
 use crate::pieces::cut;
 
 /// The words of a line that are still to come.
-#[derive(Drop)]
+#[derive(Clone, Copy)]
 pub struct Words<'a> {
-    pieces: Pieces<'a>,
+    rest: &'a [u8],
 }
 
 /// A line without its comment, which `#` begins.
@@ -27,9 +26,7 @@ impl<'a> Words<'a> {
     pub fn new(line: &'a [u8]) -> Words<'a>
         ensures { λ r. ⌜ words-left r ≡ words-of (now (line .entry)) ⌝ }
     {
-        Words {
-            pieces: Pieces::new(line, b' '),
-        }
+        Words { rest: line }
     }
 
     /// Takes the next word.
@@ -37,11 +34,20 @@ impl<'a> Words<'a> {
         ensures word { λ r. ⌜ mapped now r ≡ nth (words-left (now (self .entry))) 0 ⌝ }
         ensures left { λ _. ⌜ words-left (now (self .exit)) ≡ drop 1 (words-left (now (self .entry))) ⌝ }
     {
-        while let Some(piece) = self.pieces.next() {
+        while !self.rest.is_empty() {
+            let (piece, after) = cut(self.rest, b' ');
+            self.rest = after.unwrap_or(b"");
             if !piece.is_empty() {
                 return Some(piece);
             }
         }
         None
+    }
+
+    /// What is left of the line.
+    pub fn rest(&self) -> &'a [u8]
+        ensures { λ r. ⌜ words-of (now r) ≡ words-left (now (self .entry)) ⌝ }
+    {
+        self.rest
     }
 }

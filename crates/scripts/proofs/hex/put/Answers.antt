@@ -23,7 +23,8 @@ returns-in-Ok c =
         tt,
         λ ds.
             ap (λ l. l ++ in-pairs ds) after
-            ∙ append-assoc (vec-items (c .args .list .now)) ((16 * c .in-Some .high + c .args .low) ∷ []) (in-pairs ds)
+            ∙ append-assoc (vec-items (c .args .list .now)) (c .byte-of .result ∷ []) (in-pairs ds)
+            ∙ ap (λ b. vec-items (c .args .list .now) ++ (b ∷ in-pairs ds)) (c .byte-of .ensures)
             ∙ ap (λ h. vec-items (c .args .list .now) ++ in-pairs (listOf h ++ (c .args .low ∷ ds))) (sym (c .in-Some .is)),
       );
       front = ap (take (vec-len (c .args .list .now))) after ∙ take-at (vec-items (c .args .list .now)) _ _ (sym (c .args .list .now .ok .0));
