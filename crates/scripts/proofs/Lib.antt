@@ -3,3 +3,4 @@ pub mod Numerals
 pub mod Gathering
 pub mod Pairing
 mod Texts
+mod RowWords

@@ -5,3 +5,4 @@ pub mod Hex
 pub mod Parts
 pub mod Transcripts
 pub mod Spelled
+pub mod Shapes

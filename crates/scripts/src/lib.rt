@@ -1,6 +1,7 @@
 //! Scenario scripts: the text of a script, its commands, and the transcript.
 pub mod fault;
 pub mod hex;
+mod lattice_words;
 pub mod number;
 pub mod parts;
 pub mod pieces;
