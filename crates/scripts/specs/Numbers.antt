@@ -1,9 +1,9 @@
 -- The digits of a text and the number that a word writes. Assumes nothing.
-use mathlib.Core.Bool.{Bool, true, false, _&&_, cond}
+use mathlib.Core.Bool.{Bool, _&&_, cond}
 use mathlib.Core.List.{List, [], _∷_}
 use Prim.Native.Nat.{ℕ, _+_, _-_}
-use lib.Dec.{leb, ltb, eqb}
-use lib.ListN.{length, getD, drop}
+use lib.Dec.{ltb, eqb}
+use lib.ListN.{getD, drop}
 use Rattle.std.specs.declared.option.Option.{Option}
 use Rattle.std.specs.declared.option.Option.the-variants.{Some, None}
 use Rattle.std.specs.Options.{mapped}
@@ -13,6 +13,7 @@ use Rattle.levels.specs.Search.{when}
 use Rattle.scripts.specs.declared.number.Base.{Base}
 use Rattle.scripts.specs.declared.number.Base.the-variants.{Ten, Sixteen}
 
+-- how many digits a base has
 abbrev pub radix : Base → ℕ
 radix Ten = 10
 radix Sixteen = 16
@@ -24,6 +25,7 @@ digit-value b =
     (cond (within 97 102 b) (Some (b - 97 + 10))
     (cond (within 65 70 b) (Some (b - 65 + 10)) None))
 
+-- a number that is below this
 abbrev pub below : ℕ → Option ℕ → Option ℕ
 below most None = None
 below most (Some n) = when (ltb n most) n

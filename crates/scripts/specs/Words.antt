@@ -6,6 +6,7 @@ use Rattle.std.specs.shelf.Lists.{kept-by}
 use Rattle.scripts.specs.Pieces.{pieces-of, other}
 use Rattle.scripts.specs.declared.words.Words.{Words}
 
+-- a text that is not empty
 abbrev pub some-bytes : List ℕ → Bool
 some-bytes [] = false
 some-bytes (x ∷ xs) = true

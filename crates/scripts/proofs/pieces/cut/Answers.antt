@@ -1,5 +1,5 @@
 use native.Mathlib.Omega.{arith}
-use lib.ListN.{length, length-take, length-drop}
+use lib.ListN.{length-take, length-drop}
 use Rattle.scripts.proofs.Cutting.{cut-mark, cut-end}
 use Rattle.scripts.proofs.pieces.cut.Needs as need
 

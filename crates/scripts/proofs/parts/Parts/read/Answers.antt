@@ -1,8 +1,7 @@
 use mathlib.Core.Path.{_≡_, sym, ap, ap₂, _∙_}
 use mathlib.Core.List.{_∷_}
-use Prim.Native.Nat.{_≤_}
 use native.Mathlib.Omega.{arith}
-use lib.ListN.{length, length-append}
+use lib.ListN.{length-append}
 use Rattle.std.specs.Options.{mapped}
 use Rattle.scripts.specs.Parts.{numbers-in}
 use Rattle.scripts.specs.Pieces.{pieces-left}
