@@ -23,7 +23,7 @@ use Rattle.levels.specs.declared.table.OrderTable.{OrderTable}
 use Rattle.levels.specs.declared.table.TableFault.{TableFault}
 use Rattle.levels.specs.declared.tags.Tags.{Tags}
 use Rattle.scripts.specs.Numbers.{number-of}
-use Rattle.scripts.specs.Spelled.{after}
+use Rattle.scripts.specs.Spelled.{after, alone}
 use Rattle.scripts.specs.declared.fault.ScriptFault.{ScriptFault}
 use Rattle.scripts.specs.declared.fault.ScriptFault.the-variants.{NoLattice, Memory}
 
@@ -41,7 +41,16 @@ Side-text = Either Leaf-text (Leaf-text × Leaf-text)
 abbrev pub Shape-text : Type 0
 Shape-text = Either Leaf-text (Side-text × Side-text)
 
-abbrev pub leaf-text : Either Tags OrderTable → Leaf-text
+abbrev pub Leaf : Type 0
+Leaf = Either Tags OrderTable
+
+abbrev pub Side : Type 0
+Side = Either Leaf (Pair Leaf Leaf)
+
+abbrev pub Shape : Type 0
+Shape = Either Leaf (Pair Side Side)
+
+abbrev pub leaf-text : Leaf → Leaf-text
 leaf-text (Left tags) = Left (tags .mask)
 leaf-text (Right table) = Right (rows-of table)
 
@@ -50,8 +59,11 @@ abbrev pub pair-or-one : {S T X Y : Type 0} → (S → X) → (T → Y) → Eith
 pair-or-one one side (Left s) = Left (one s)
 pair-or-one one side (Right p) = Right (side (p .left), side (p .right))
 
-abbrev pub side-text : Either (Either Tags OrderTable) (Pair (Either Tags OrderTable) (Either Tags OrderTable)) → Side-text
+abbrev pub side-text : Side → Side-text
 side-text side = pair-or-one leaf-text leaf-text side
+
+abbrev pub shape-text : Shape → Shape-text
+shape-text shape = pair-or-one leaf-text side-text shape
 
 -- What words say: the answer of the making, and the words that are left. None where the words are at fault.
 abbrev pub Said : Type 0 → Type 0
@@ -87,6 +99,16 @@ leaf-in (word ∷ words) =
     cond (sameBytes word (codes "tags")) (tags-in words)
     (cond (sameBytes word (codes "rows")) (table-in words) None)
 
+-- the pair of two lattices that were made, or the first fault; and a lattice that is no pair
+abbrev pub paired : {R S T : Type 0} → Result S TableFault → Result T TableFault → Result (Either R (Pair S T)) TableFault
+paired (Err e) other = Err e
+paired (Ok s) (Err e) = Err e
+paired (Ok s) (Ok t) = Ok (Right (record { left = s; right = t }))
+
+abbrev pub unpaired : {S T : Type 0} → Result S TableFault → Result (Either S T) TableFault
+unpaired (Err e) = Err e
+unpaired (Ok s) = Ok (Left s)
+
 -- the first refusal of two makings
 abbrev pub both-made : {X Y : Type 0} → Result X Refusal → Result Y Refusal → Result (X × Y) Refusal
 both-made (Err e) other = Err e
@@ -112,6 +134,10 @@ side-in words = pair-in leaf-in words
 abbrev pub shape-in : List Word → Said Shape-text
 shape-in words = pair-in side-in words
 
+-- a LATTICE with no word after it
+abbrev pub lattice-of : List Word → Option (Result Shape-text Refusal)
+lattice-of words = after (shape-in words) (λ made. alone (made .0) (made .1))
+
 -- words at fault, or want of memory
 abbrev pub Fails : {X : Type 0} → ScriptFault → Option X → Type 0
 Fails e said = (e ≡ Memory) ⊎ ((e ≡ NoLattice) × (said ≡ None))
@@ -119,3 +145,6 @@ Fails e said = (e ≡ Memory) ⊎ ((e ≡ NoLattice) × (said ≡ None))
 -- what was read of words, with the words that are left, is what they say
 abbrev pub Reads : {T X : Type 0} → (T → X) → Result T ScriptFault → Option (X × List Word) → List Word → Type 0
 Reads value r said left = Cases r (λ x. Some (value x, left) ≡ said) (λ e. Fails e said)
+
+abbrev pub Makes : {T X : Type 0} → (T → X) → Result T ScriptFault → Option X → Type 0
+Makes value r said = Cases r (λ x. Some (value x) ≡ said) (λ e. Fails e said)

@@ -62,10 +62,10 @@ pair-text left right level = left (level .0) ++ (codes "/" ++ right (level .1))
 abbrev pub with-rest : {X : Type 0} → X × RefT (List ℕ) → X × List ℕ
 with-rest found = (found .0, now (found .1))
 
--- a value after which no number is left
-abbrev pub alone : {X : Type 0} → X → List ℕ → Option X
+-- a value after which nothing is left
+abbrev pub alone : {X Y : Type 0} → X → List Y → Option X
 alone x [] = Some x
-alone x (n ∷ ns) = None
+alone x (y ∷ ys) = None
 
 -- the level that all of the numbers write
 abbrev pub whole : {X : Type 0} → (List ℕ → Option (X × List ℕ)) → List ℕ → Option X

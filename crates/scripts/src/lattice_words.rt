@@ -6,14 +6,17 @@ ghost use Rattle.std.specs.Options.{Cases};
 ghost use Rattle.std.specs.shelf.Text.{sameBytes};
 ghost use Rattle.levels.specs.Refusals.{answer};
 ghost use Rattle.levels.specs.Tables.{table-refusal};
-ghost use Rattle.scripts.specs.Shapes.{leaf-text, rows-in, tags-in, table-in, leaf-in, Reads};
+ghost use Rattle.scripts.specs.Shapes.{leaf-text, side-text, shape-text, rows-in, tags-in, table-in, leaf-in, side-in, shape-in, lattice-of, paired, unpaired, Reads, Makes};
 ghost use Rattle.scripts.specs.Words.{words-left};
 use crate::fault::ScriptFault;
 use crate::fault::ScriptFaultFromRefused;
 use crate::number::number;
 use crate::shape::Leaf;
+use crate::shape::Shape;
+use crate::shape::Side;
 use crate::words::Words;
 use levels::either::Either;
+use levels::pair::Pair;
 use levels::table::OrderTable;
 use levels::table::TableFault;
 use levels::tags::Tags;
@@ -28,7 +31,7 @@ fn says(word: &[u8], text: &[u8]) -> bool
 
 // Takes the next word.
 fn take_word<'a>(words: &mut Words<'a>) -> Option<&'a [u8]>
-    ensures { λ r. ⌜ Cases r (words-left (now (words .entry)) ≡ []) (λ word. words-left (now (words .entry)) ≡ now word ∷ words-left (now (words .exit))) ⌝ }
+    ensures { λ r. ⌜ Cases r ((words-left (now (words .entry)) ≡ []) × (words-left (now (words .exit)) ≡ [])) (λ word. words-left (now (words .entry)) ≡ now word ∷ words-left (now (words .exit))) ⌝ }
 {
     words.next()
 }
@@ -89,4 +92,75 @@ fn leaf(heap: Global, words: &mut Words<'_>) -> Result<Result<Leaf, TableFault>,
         return table(heap, words);
     }
     Err(ScriptFault::NoLattice)
+}
+
+// The pair of two lattices that were made, or the first fault.
+fn both<A: Drop, B: Drop, S>(
+    left: Result<A, TableFault>,
+    right: Result<B, TableFault>,
+) -> Result<Either<S, Pair<A, B>>, TableFault>
+    ensures { λ r. ⌜ r ≡ paired left right ⌝ }
+{
+    match left {
+        Err(fault) => Err(fault),
+        Ok(left) => match right {
+            Err(fault) => Err(fault),
+            Ok(right) => Ok(Either::Right(Pair::new(left, right))),
+        },
+    }
+}
+
+// A lattice that is no pair, where a pair may stand.
+fn single<A, P>(made: Result<A, TableFault>) -> Result<Either<A, P>, TableFault>
+    ensures { λ r. ⌜ r ≡ unpaired made ⌝ }
+{
+    match made {
+        Err(fault) => Err(fault),
+        Ok(one) => Ok(Either::Left(one)),
+    }
+}
+
+// A side of a pair: a pair of two leaves, or a leaf.
+fn side(heap: Global, words: &mut Words<'_>) -> Result<Result<Side, TableFault>, ScriptFault>
+    ensures { λ r. ⌜ Reads (answer side-text table-refusal) r (side-in (words-left (now (words .entry)))) (words-left (now (words .exit))) ⌝ }
+{
+    let mut ahead = *words;
+    let Some(word) = take_word(&mut ahead) else {
+        return Err(ScriptFault::NoLattice);
+    };
+    if !says(word, b"pair") {
+        return Ok(single(leaf(heap, words)?));
+    }
+    *words = ahead;
+    let left = leaf(heap, words)?;
+    let right = leaf(heap, words)?;
+    Ok(both(left, right))
+}
+
+// A pair of two sides, or a leaf.
+fn shape(heap: Global, words: &mut Words<'_>) -> Result<Result<Shape, TableFault>, ScriptFault>
+    ensures { λ r. ⌜ Reads (answer shape-text table-refusal) r (shape-in (words-left (now (words .entry)))) (words-left (now (words .exit))) ⌝ }
+{
+    let mut ahead = *words;
+    let Some(word) = take_word(&mut ahead) else {
+        return Err(ScriptFault::NoLattice);
+    };
+    if !says(word, b"pair") {
+        return Ok(single(leaf(heap, words)?));
+    }
+    *words = ahead;
+    let left = side(heap, words)?;
+    let right = side(heap, words)?;
+    Ok(both(left, right))
+}
+
+/// Makes the lattice that the words of a line write. A fault of the script comes before any refusal.
+pub fn lattice(heap: Global, mut words: Words<'_>) -> Result<Result<Shape, TableFault>, ScriptFault>
+    ensures { λ r. ⌜ Makes (answer shape-text table-refusal) r (lattice-of (words-left (words .entry))) ⌝ }
+{
+    let made = shape(heap, &mut words)?;
+    match take_word(&mut words) {
+        None => Ok(made),
+        Some(_) => Err(ScriptFault::NoLattice),
+    }
 }

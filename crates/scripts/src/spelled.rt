@@ -123,7 +123,10 @@ pub impl<A: Spelled, B: Spelled> Spelled for Either<A, B> as EitherSpelled {
         }
     }
 
-    fn say(value: Either<A::Value, B::Value>, transcript: &mut Transcript) -> Result<(), AllocError> {
+    fn say(
+        value: Either<A::Value, B::Value>,
+        transcript: &mut Transcript,
+    ) -> Result<(), AllocError> {
         match value {
             Either::Left(level) => A::say(level, transcript),
             Either::Right(level) => B::say(level, transcript),
