@@ -4,3 +4,4 @@ pub mod Gathering
 pub mod Pairing
 mod Texts
 mod RowWords
+mod Shown

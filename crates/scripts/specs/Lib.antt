@@ -6,3 +6,4 @@ pub mod Parts
 pub mod Transcripts
 pub mod Spelled
 pub mod Shapes
+pub mod Policies

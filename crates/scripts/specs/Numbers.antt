@@ -35,12 +35,12 @@ abbrev pub digit-of : Base → ℕ → Option ℕ
 digit-of base b = below (radix base) (digit-value b)
 
 -- one more at the front of a list
-abbrev pub before : Option ℕ → Option (List ℕ) → Option (List ℕ)
+abbrev pub before : {Y : Type 0} → Option Y → Option (List Y) → Option (List Y)
 before None ds = None
 before (Some d) ds = mapped (λ l. d ∷ l) ds
 
 -- what each of a list gives, where all give something
-abbrev pub each : {X : Type 0} → (X → Option ℕ) → List X → Option (List ℕ)
+abbrev pub each : {X Y : Type 0} → (X → Option Y) → List X → Option (List Y)
 each f [] = Some []
 each f (x ∷ xs) = before (f x) (each f xs)
 

@@ -5,6 +5,7 @@ mod lattice_words;
 pub mod number;
 pub mod parts;
 pub mod pieces;
+pub mod policy;
 pub mod shape;
 pub mod spelled;
 #[cfg(test)]
