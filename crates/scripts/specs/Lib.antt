@@ -7,3 +7,4 @@ pub mod Transcripts
 pub mod Spelled
 pub mod Shapes
 pub mod Policies
+pub mod Drafts

@@ -1,9 +1,6 @@
 //! LATTICE: reading the words of a lattice, and making it.
-ghost use mathlib.Core.List.{[], _∷_};
 ghost use mathlib.Core.Path.{_≡_};
 ghost use Rattle.std.specs.Of.Vec.{vec-items};
-ghost use Rattle.std.specs.Options.{Cases};
-ghost use Rattle.std.specs.shelf.Text.{sameBytes};
 ghost use Rattle.levels.specs.Refusals.{answer};
 ghost use Rattle.levels.specs.Tables.{table-refusal};
 ghost use Rattle.scripts.specs.Shapes.{leaf-text, side-text, shape-text, rows-in, tags-in, table-in, leaf-in, side-in, shape-in, lattice-of, paired, unpaired, Reads, Makes};
@@ -15,6 +12,7 @@ use crate::shape::Leaf;
 use crate::shape::Shape;
 use crate::shape::Side;
 use crate::words::Words;
+use crate::words::says;
 use levels::either::Either;
 use levels::pair::Pair;
 use levels::table::OrderTable;
@@ -22,27 +20,13 @@ use levels::table::TableFault;
 use levels::tags::Tags;
 use std::alloc::Global;
 
-// Whether a word is this text.
-fn says(word: &[u8], text: &[u8]) -> bool
-    ensures { λ r. ⌜ r ≡ sameBytes (now (word .entry)) (now (text .entry)) ⌝ }
-{
-    word == text
-}
-
-// Takes the next word.
-fn take_word<'a>(words: &mut Words<'a>) -> Option<&'a [u8]>
-    ensures { λ r. ⌜ Cases r ((words-left (now (words .entry)) ≡ []) × (words-left (now (words .exit)) ≡ [])) (λ word. words-left (now (words .entry)) ≡ now word ∷ words-left (now (words .exit))) ⌝ }
-{
-    words.next()
-}
-
 // The rows of a table.
 fn rows(heap: Global, words: &mut Words<'_>) -> Result<Vec<u16>, ScriptFault>
     ensures { λ r. ⌜ Reads vec-items r (rows-in (words-left (now (words .entry)))) (words-left (now (words .exit))) ⌝ }
 {
     let mut rows = Vec::new(heap);
     let mut ahead = *words;
-    while let Some(word) = take_word(&mut ahead) {
+    while let Some(word) = ahead.take() {
         let Some(row) = number(word) else {
             return Ok(rows);
         };
@@ -59,7 +43,7 @@ fn rows(heap: Global, words: &mut Words<'_>) -> Result<Vec<u16>, ScriptFault>
 fn tags(words: &mut Words<'_>) -> Result<Result<Leaf, TableFault>, ScriptFault>
     ensures { λ r. ⌜ Reads (answer leaf-text table-refusal) r (tags-in (words-left (now (words .entry)))) (words-left (now (words .exit))) ⌝ }
 {
-    let Some(word) = take_word(words) else {
+    let Some(word) = words.take() else {
         return Err(ScriptFault::NoLattice);
     };
     match number(word) {
@@ -82,7 +66,7 @@ fn table(heap: Global, words: &mut Words<'_>) -> Result<Result<Leaf, TableFault>
 fn leaf(heap: Global, words: &mut Words<'_>) -> Result<Result<Leaf, TableFault>, ScriptFault>
     ensures { λ r. ⌜ Reads (answer leaf-text table-refusal) r (leaf-in (words-left (now (words .entry)))) (words-left (now (words .exit))) ⌝ }
 {
-    let Some(word) = take_word(words) else {
+    let Some(word) = words.take() else {
         return Err(ScriptFault::NoLattice);
     };
     if says(word, b"tags") {
@@ -125,7 +109,7 @@ fn side(heap: Global, words: &mut Words<'_>) -> Result<Result<Side, TableFault>,
     ensures { λ r. ⌜ Reads (answer side-text table-refusal) r (side-in (words-left (now (words .entry)))) (words-left (now (words .exit))) ⌝ }
 {
     let mut ahead = *words;
-    let Some(word) = take_word(&mut ahead) else {
+    let Some(word) = ahead.take() else {
         return Err(ScriptFault::NoLattice);
     };
     if !says(word, b"pair") {
@@ -142,7 +126,7 @@ fn shape(heap: Global, words: &mut Words<'_>) -> Result<Result<Shape, TableFault
     ensures { λ r. ⌜ Reads (answer shape-text table-refusal) r (shape-in (words-left (now (words .entry)))) (words-left (now (words .exit))) ⌝ }
 {
     let mut ahead = *words;
-    let Some(word) = take_word(&mut ahead) else {
+    let Some(word) = ahead.take() else {
         return Err(ScriptFault::NoLattice);
     };
     if !says(word, b"pair") {
@@ -159,7 +143,7 @@ pub fn lattice(heap: Global, mut words: Words<'_>) -> Result<Result<Shape, Table
     ensures { λ r. ⌜ Makes (answer shape-text table-refusal) r (lattice-of (words-left (words .entry))) ⌝ }
 {
     let made = shape(heap, &mut words)?;
-    match take_word(&mut words) {
+    match words.take() {
         None => Ok(made),
         Some(_) => Err(ScriptFault::NoLattice),
     }

@@ -1,4 +1,5 @@
 //! Scenario scripts: the text of a script, its commands, and the transcript.
+pub mod draft;
 pub mod fault;
 pub mod hex;
 mod lattice_words;

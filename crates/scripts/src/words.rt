@@ -1,7 +1,9 @@
 //! A line without its comment, and its words.
 ghost use mathlib.Core.Path.{_≡_};
 ghost use lib.ListN.{drop};
-ghost use Rattle.std.specs.Options.{mapped};
+ghost use mathlib.Core.List.{[], _∷_};
+ghost use Rattle.std.specs.Options.{mapped, Cases};
+ghost use Rattle.std.specs.shelf.Text.{sameBytes};
 ghost use Rattle.std.specs.shelf.Maps.{nth};
 ghost use Rattle.std.specs.declared.option.Option.the-variants.{Some};
 ghost use Rattle.scripts.specs.Pieces.{pieces-of};
@@ -19,6 +21,13 @@ pub fn without_comment(line: &[u8]) -> &[u8]
     ensures { λ r. ⌜ Some (now r) ≡ nth (pieces-of 35 (now (line .entry))) 0 ⌝ }
 {
     cut(line, b'#').0
+}
+
+/// Whether a word is this text.
+pub fn says(word: &[u8], text: &[u8]) -> bool
+    ensures { λ r. ⌜ r ≡ sameBytes (now (word .entry)) (now (text .entry)) ⌝ }
+{
+    word == text
 }
 
 impl<'a> Words<'a> {
@@ -42,6 +51,13 @@ impl<'a> Words<'a> {
             }
         }
         None
+    }
+
+    /// Takes the next word: the words that were left begin with it.
+    pub fn take(&mut self) -> Option<&'a [u8]>
+        ensures { λ r. ⌜ Cases r ((words-left (now (self .entry)) ≡ []) × (words-left (now (self .exit)) ≡ [])) (λ word. words-left (now (self .entry)) ≡ now word ∷ words-left (now (self .exit))) ⌝ }
+    {
+        self.next()
     }
 
     /// What is left of the line.

@@ -10,7 +10,7 @@ use Rattle.scripts.proofs.lattice_words.rows.Needs as need
 pub loop-word-again : need.loop-word-again
 loop-word-again c =
     let before = vec-items (c .loop-word .rows) in
-    let after = words-left (c .take-word .last .words) in
+    let after = words-left (c .take .last .self) in
     let all = words-left (c .loop-word .words) in (
       refl,
       ap (λ l. gathered l (rows-in after)) (c .in-Continue-push .ensures tt .items)
