@@ -5,3 +5,4 @@ pub mod Pairing
 mod Texts
 mod RowWords
 mod Shown
+mod Adding

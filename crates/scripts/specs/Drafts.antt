@@ -1,20 +1,24 @@
 -- The book that a script chooses and its levels. Assumes nothing.
 use mathlib.Core.Path.{_≡_}
 use mathlib.Core.Bool.{cond}
-use mathlib.Core.List.{List, [], _∷_}
+use mathlib.Core.List.{List, [], _∷_, _++_}
+use mathlib.Core.Logic.{_⊎_}
 use Prim.Native.Nat.{ℕ}
 use lib.Chars.{codes}
+use Rattle.std.specs.Options.{mapped}
+use Rattle.std.specs.Results.{Cases}
 use Rattle.std.specs.declared.option.Option.{Option}
 use Rattle.std.specs.declared.option.Option.the-variants.{Some, None}
 use Rattle.std.specs.declared.result.Result.{Result}
 use Rattle.std.specs.declared.result.Result.the-variants.{Ok, Err}
 use Rattle.std.specs.shelf.Text.{sameBytes}
-use Rattle.scripts.specs.Numbers.{number-of}
+use Rattle.scripts.specs.Numbers.{each, number-of}
+use Rattle.scripts.specs.Spelled.{level-of}
 use Rattle.scripts.specs.declared.draft.BookKind.{BookKind}
 use Rattle.scripts.specs.declared.draft.BookKind.the-variants.{Row, Fixed}
 use Rattle.scripts.specs.declared.draft.BookPlan.{BookPlan}
 use Rattle.scripts.specs.declared.fault.ScriptFault.{ScriptFault}
-use Rattle.scripts.specs.declared.fault.ScriptFault.the-variants.{MissingWord, ExtraWord, NoNumber, NoBook}
+use Rattle.scripts.specs.declared.fault.ScriptFault.the-variants.{MissingWord, ExtraWord, NoNumber, NoLevel, NoBook, Memory}
 
 abbrev pub Word : Type 0
 Word = List ℕ
@@ -54,3 +58,11 @@ plan-of words =
     and-then (number-first (permissions .1)) (λ types.
     and-then (number-first (types .1)) (λ figures.
     last (record { kind = kind .0; permissions = permissions .0; types = types .0; figures = figures .0 }) (figures .1)))))
+
+-- the levels that words write
+abbrev pub levels-of : {L : Type 0} → (List ℕ → Option (L × List ℕ)) → List Word → Option (List L)
+levels-of spelled words = each (level-of spelled) words
+
+-- they were added to the end of a list; else a word is no level, or memory was lacking
+abbrev pub Adds : {U L : Type 0} → Result U ScriptFault → Option (List L) → List L → List L → Type 0
+Adds r given old new = Cases r (λ _. Some new ≡ mapped (λ more. old ++ more) given) (λ e. (e ≡ Memory) ⊎ ((e ≡ NoLevel) × (given ≡ None)))

@@ -7,6 +7,7 @@ use crate::shape::Shape;
 use crate::shape::ShapeLevel;
 use std::alloc::Global;
 
+mod levels;
 pub mod plan;
 
 #[derive(Clone, Copy, PartialEq, Eq, Debug)]
