@@ -9,6 +9,7 @@ use std::alloc::Global;
 
 mod levels;
 pub mod plan;
+pub mod policy;
 
 #[derive(Clone, Copy, PartialEq, Eq, Debug)]
 pub enum BookKind {

@@ -1,0 +1,87 @@
+//! The answer of `policy`.
+ghost use mathlib.Core.Bool.{Bool};
+ghost use mathlib.Core.List.{_++_};
+ghost use mathlib.Core.Path.{_≡_};
+ghost use Rattle.std.specs.Of.Vec.{vec-items};
+ghost use Rattle.std.specs.Results.{isOk};
+ghost use Rattle.std.specs.Vec.{made};
+ghost use Rattle.levels.specs.Refusals.{answer, within-memory};
+ghost use Rattle.levels.specs.declared.refusal.Layer.the-variants.{Books};
+ghost use Rattle.books.specs.Made.{book-refusal};
+ghost use Rattle.scripts.specs.Policies.{policy-text, plan-verdict};
+ghost use Rattle.scripts.specs.Transcripts.{said};
+use crate::draft::BookKind;
+use crate::draft::BookPlan;
+use crate::policy::say_book;
+use crate::spelled::Spelled;
+use crate::transcript::Transcript;
+use books::TypeBook;
+use books::fault::BookFault;
+use books::fault::tells::BookFaultFault;
+use books::fixed::FixedBook;
+use books::fixed::make::FixedBookTypeBook;
+use books::row::RowBook;
+use books::row::make::RowBookTypeBook;
+use levels::refusal::Fault;
+use levels::refusal::RefusalDisplay;
+use std::alloc::AllocError;
+use std::alloc::Global;
+
+// Tells of the making of a book, and whether it was made.
+fn say_made<S: Spelled, B: TypeBook<Level = S::Value> + Drop>(
+    making: Result<B, BookFault>,
+    transcript: &mut Transcript,
+) -> Result<bool, AllocError>
+    ensures { λ r. ⌜ made r (λ good. (good ≡ isOk making) × (said (now (transcript .exit)) ≡ said (now (transcript .entry)) ++ policy-text (S·Spelled .text) (answer (B·TypeBook .meaning) book-refusal making))) ⌝ }
+{
+    match making {
+        Ok(book) => {
+            transcript.say("policy: made\n")?;
+            say_book::<S, B>(&book, transcript)?;
+            Ok(true)
+        }
+        Err(fault) => {
+            let refusal = fault.refusal();
+            transcript.say(format_args!("policy: {refusal}\n"))?;
+            Ok(false)
+        }
+    }
+}
+
+impl BookPlan {
+    /// Makes the book of the levels that are given, and shows it.
+    pub fn say_policy<S: Spelled>(
+        self,
+        heap: Global,
+        levels: &[S::Value],
+        figures: &[S::Value],
+        transcript: &mut Transcript,
+    ) -> Result<bool, AllocError>
+        ensures { λ r. ⌜ made r (λ good. ((lacking : Bool) × (good ≡ isOk (within-memory lacking Books (plan-verdict self (now (levels .entry)) (now (figures .entry))))) × (said (now (transcript .exit)) ≡ said (now (transcript .entry)) ++ policy-text (S·Spelled .text) (within-memory lacking Books (plan-verdict self (now (levels .entry)) (now (figures .entry))))))) ⌝ }
+    {
+        match self.kind {
+            BookKind::Row => {
+                let making = RowBook::new(
+                    heap,
+                    self.permissions,
+                    self.types,
+                    self.figures,
+                    levels,
+                    figures,
+                );
+                say_made::<S, RowBook<S::Value>>(making, transcript)
+            }
+            BookKind::Fixed => {
+                let making = FixedBook::new(
+                    heap,
+                    self.permissions,
+                    self.types,
+                    self.figures,
+                    levels,
+                    figures,
+                );
+                say_made::<S, FixedBook<S::Value>>(making, transcript)
+            }
+        }
+    }
+}
