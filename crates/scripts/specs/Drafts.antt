@@ -13,7 +13,11 @@ use Rattle.std.specs.declared.result.Result.{Result}
 use Rattle.std.specs.declared.result.Result.the-variants.{Ok, Err}
 use Rattle.std.specs.shelf.Text.{sameBytes}
 use Rattle.scripts.specs.Numbers.{each, number-of}
-use Rattle.scripts.specs.Spelled.{level-of}
+use Rattle.levels.specs.declared.either.Either.{Either}
+use Rattle.levels.specs.declared.table.Rank.{Rank}
+use Rattle.levels.specs.declared.tags.TagSet.{TagSet}
+use Rattle.scripts.specs.Shapes.{Leaf, Side, Shape}
+use Rattle.scripts.specs.Spelled.{level-of, spelled-tags, spelled-rank, spelled-pair, spelled-either}
 use Rattle.scripts.specs.declared.draft.BookKind.{BookKind}
 use Rattle.scripts.specs.declared.draft.BookKind.the-variants.{Row, Fixed}
 use Rattle.scripts.specs.declared.draft.BookPlan.{BookPlan}
@@ -66,3 +70,13 @@ levels-of spelled words = each (level-of spelled) words
 -- they were added to the end of a list; else a word is no level, or memory was lacking
 abbrev pub Adds : {U L : Type 0} → Result U ScriptFault → Option (List L) → List L → List L → Type 0
 Adds r given old new = Cases r (λ _. Some new ≡ mapped (λ more. old ++ more) given) (λ e. (e ≡ Memory) ⊎ ((e ≡ NoLevel) × (given ≡ None)))
+
+-- the level of any lattice of a script that numbers write
+abbrev pub spelled-leaf : Leaf → List ℕ → Option (Either TagSet Rank × List ℕ)
+spelled-leaf leaf = spelled-either (λ _. spelled-tags) (λ _. spelled-rank) leaf
+
+abbrev pub spelled-side : Side → List ℕ → Option (Either (Either TagSet Rank) (Either TagSet Rank × Either TagSet Rank) × List ℕ)
+spelled-side side = spelled-either spelled-leaf (λ p. spelled-pair (spelled-leaf (p .left)) (spelled-leaf (p .right))) side
+
+abbrev pub spelled-shape : Shape → List ℕ → Option (Either (Either TagSet Rank) (Either (Either TagSet Rank) (Either TagSet Rank × Either TagSet Rank) × Either (Either TagSet Rank) (Either TagSet Rank × Either TagSet Rank)) × List ℕ)
+spelled-shape shape = spelled-either spelled-leaf (λ p. spelled-pair (spelled-side (p .left)) (spelled-side (p .right))) shape

@@ -8,3 +8,4 @@ pub mod Spelled
 pub mod Shapes
 pub mod Policies
 pub mod Drafts
+pub mod Faults

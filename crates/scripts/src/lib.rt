@@ -7,6 +7,8 @@ pub mod number;
 pub mod parts;
 pub mod pieces;
 pub mod policy;
+pub mod script;
+pub mod session;
 pub mod shape;
 pub mod spelled;
 #[cfg(test)]

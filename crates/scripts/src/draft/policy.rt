@@ -12,8 +12,16 @@ ghost use Rattle.scripts.specs.Policies.{policy-text, plan-verdict};
 ghost use Rattle.scripts.specs.Transcripts.{said};
 use crate::draft::BookKind;
 use crate::draft::BookPlan;
+use crate::draft::Draft;
+use crate::fault::ScriptFault;
+use crate::fault::ScriptFaultFromAlloc;
 use crate::policy::say_book;
+use crate::shape::Shape;
+use crate::spelled::EitherSpelled;
+use crate::spelled::OrderTableSpelled;
+use crate::spelled::PairSpelled;
 use crate::spelled::Spelled;
+use crate::spelled::TagsSpelled;
 use crate::transcript::Transcript;
 use books::TypeBook;
 use books::fault::BookFault;
@@ -83,5 +91,21 @@ impl BookPlan {
                 say_made::<S, FixedBook<S::Value>>(making, transcript)
             }
         }
+    }
+}
+
+impl Draft {
+    /// Makes the book that was chosen of the levels that were given, and shows it.
+    pub fn say_policy(&self, heap: Global, transcript: &mut Transcript) -> Result<bool, ScriptFault> {
+        let Some(plan) = self.plan else {
+            return Err(ScriptFault::WantsBook);
+        };
+        let good = plan.say_policy::<Shape>(
+            heap,
+            self.levels.as_slice(),
+            self.figures.as_slice(),
+            transcript,
+        )?;
+        Ok(good)
     }
 }

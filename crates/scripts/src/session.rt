@@ -1,0 +1,36 @@
+//! What a script has made so far, and its commands.
+use crate::draft::Draft;
+use crate::hex::HexFault;
+use crate::transcript::Transcript;
+use std::alloc::Global;
+
+pub mod commands;
+
+/// What was done so far.
+#[derive(Clone, Copy)]
+pub struct Tally {
+    scenarios: u64,
+    policies_made: u64,
+    policies_refused: u64,
+}
+
+/// The three byte lists of a program.
+#[derive(Drop)]
+pub struct Source {
+    nodes: Vec<u8>,
+    functions: Vec<u8>,
+    apps: Vec<u8>,
+}
+
+/// A script that is being obeyed.
+#[derive(Drop)]
+pub struct Session {
+    heap: Global,
+    // Whether a scenario has begun.
+    begun: bool,
+    // The lattice that was made, with the book that was chosen over it.
+    draft: Option<Draft>,
+    source: Source,
+    tally: Tally,
+    transcript: Transcript,
+}

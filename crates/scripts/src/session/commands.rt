@@ -1,0 +1,220 @@
+//! The commands of a script.
+use crate::draft::BookPlan;
+use crate::draft::Draft;
+use crate::fault::ScriptFault;
+use crate::fault::ScriptFaultFromAlloc;
+use crate::fault::ScriptFaultFromHex;
+use crate::hex::append_hex;
+use crate::lattice_words::lattice;
+use crate::session::Session;
+use crate::session::Source;
+use crate::session::Tally;
+use crate::shape::Shape;
+use crate::transcript::Transcript;
+use crate::words::Words;
+use crate::words::says;
+use crate::words::without_comment;
+use levels::refusal::Fault;
+use levels::refusal::RefusalDisplay;
+use levels::table::lattice::TableFaultFault;
+use std::alloc::Global;
+
+// That no word is left.
+fn no_more(mut words: Words<'_>) -> Result<(), ScriptFault> {
+    match words.take() {
+        None => Ok(()),
+        Some(_) => Err(ScriptFault::ExtraWord),
+    }
+}
+
+// The one word that is left.
+fn only_word<'a>(mut words: Words<'a>) -> Result<&'a [u8], ScriptFault> {
+    let Some(word) = words.take() else {
+        return Err(ScriptFault::MissingWord);
+    };
+    no_more(words)?;
+    Ok(word)
+}
+
+impl Source {
+    pub fn new(heap: Global) -> Source {
+        Source {
+            nodes: Vec::new(heap),
+            functions: Vec::new(heap),
+            apps: Vec::new(heap),
+        }
+    }
+
+    fn clear(&mut self) {
+        self.nodes.clear();
+        self.functions.clear();
+        self.apps.clear();
+    }
+}
+
+impl Session {
+    /// Nothing done yet.
+    pub fn new(heap: Global) -> Session {
+        Session {
+            heap,
+            begun: false,
+            draft: None,
+            source: Source::new(heap),
+            tally: Tally {
+                scenarios: 0,
+                policies_made: 0,
+                policies_refused: 0,
+            },
+            transcript: Transcript::new(heap),
+        }
+    }
+
+    fn scenario(&mut self, words: Words<'_>) -> Result<(), ScriptFault> {
+        let name = only_word(words)?;
+        self.transcript.say("scenario ")?;
+        self.transcript.copy(name)?;
+        self.transcript.say("\n")?;
+        self.begun = true;
+        self.draft = None;
+        self.source.clear();
+        self.tally.scenarios = self.tally.scenarios.saturating_add(1);
+        Ok(())
+    }
+
+    fn lattice(&mut self, words: Words<'_>) -> Result<(), ScriptFault> {
+        match lattice(self.heap, words)? {
+            Ok(shape) => {
+                self.transcript.say("lattice: made\n")?;
+                self.draft = Some(Draft::new(self.heap, shape));
+            }
+            Err(fault) => {
+                let refusal = fault.refusal();
+                self.transcript.say(format_args!("lattice: {refusal}\n"))?;
+                self.draft = None;
+            }
+        }
+        Ok(())
+    }
+
+    fn book(&mut self, words: Words<'_>) -> Result<(), ScriptFault> {
+        let plan = BookPlan::read(words)?;
+        if let Some(draft) = &mut self.draft {
+            draft.choose(plan);
+        }
+        Ok(())
+    }
+
+    fn levels(&mut self, words: Words<'_>) -> Result<(), ScriptFault> {
+        let Some(draft) = &mut self.draft else {
+            return Err(ScriptFault::WantsLattice);
+        };
+        draft.add_type_levels(words)
+    }
+
+    fn figures(&mut self, words: Words<'_>) -> Result<(), ScriptFault> {
+        let Some(draft) = &mut self.draft else {
+            return Err(ScriptFault::WantsLattice);
+        };
+        draft.add_figure_levels(words)
+    }
+
+    fn policy(&mut self, words: Words<'_>) -> Result<(), ScriptFault> {
+        no_more(words)?;
+        let Some(draft) = &self.draft else {
+            return Err(ScriptFault::WantsLattice);
+        };
+        if draft.say_policy(self.heap, &mut self.transcript)? {
+            self.tally.policies_made = self.tally.policies_made.saturating_add(1);
+        } else {
+            self.tally.policies_refused = self.tally.policies_refused.saturating_add(1);
+        }
+        Ok(())
+    }
+
+    fn nodes(&mut self, words: Words<'_>) -> Result<(), ScriptFault> {
+        append_hex(&mut self.source.nodes, words.rest())?;
+        Ok(())
+    }
+
+    fn functions(&mut self, words: Words<'_>) -> Result<(), ScriptFault> {
+        append_hex(&mut self.source.functions, words.rest())?;
+        Ok(())
+    }
+
+    fn apps(&mut self, words: Words<'_>) -> Result<(), ScriptFault> {
+        append_hex(&mut self.source.apps, words.rest())?;
+        Ok(())
+    }
+
+    fn clear(&mut self, words: Words<'_>) -> Result<(), ScriptFault> {
+        no_more(words)?;
+        self.source.clear();
+        Ok(())
+    }
+
+    // A command of a scenario that has begun.
+    fn act(&mut self, command: &[u8], words: Words<'_>) -> Result<(), ScriptFault> {
+        if says(command, b"lattice") {
+            return self.lattice(words);
+        }
+        if says(command, b"book") {
+            return self.book(words);
+        }
+        if says(command, b"levels") {
+            return self.levels(words);
+        }
+        if says(command, b"figures") {
+            return self.figures(words);
+        }
+        if says(command, b"policy") {
+            return self.policy(words);
+        }
+        self.act_on_source(command, words)
+    }
+
+    // A command about the bytes of a program.
+    fn act_on_source(&mut self, command: &[u8], words: Words<'_>) -> Result<(), ScriptFault> {
+        if says(command, b"nodes") {
+            return self.nodes(words);
+        }
+        if says(command, b"functions") {
+            return self.functions(words);
+        }
+        if says(command, b"apps") {
+            return self.apps(words);
+        }
+        if says(command, b"clear") {
+            return self.clear(words);
+        }
+        Err(ScriptFault::UnknownCommand)
+    }
+
+    /// Obeys one line of a script.
+    pub fn obey(&mut self, line: &[u8]) -> Result<(), ScriptFault> {
+        let mut words = Words::new(without_comment(line));
+        let Some(command) = words.take() else {
+            return Ok(());
+        };
+        if says(command, b"scenario") {
+            return self.scenario(words);
+        }
+        if !self.begun {
+            return Err(ScriptFault::NoScenario);
+        }
+        self.act(command, words)
+    }
+
+    /// The transcript of a script that ended without a fault, with its closing line.
+    pub fn close(&mut self) -> Result<(), ScriptFault> {
+        let scenarios = self.tally.scenarios;
+        let made = self.tally.policies_made;
+        let refused = self.tally.policies_refused;
+        self.transcript.say(format_args!("done: {scenarios} scenarios, {made} policies made and {refused} refused, 0 programs accepted and 0 refused, 0 runs with a result and 0 cut\n"))?;
+        Ok(())
+    }
+
+    pub fn into_transcript(self) -> Transcript {
+        let Session { transcript, .. } = self;
+        transcript
+    }
+}
