@@ -9,3 +9,4 @@ pub mod Shapes
 pub mod Policies
 pub mod Drafts
 pub mod Faults
+pub mod Scenes

@@ -11,7 +11,5 @@ pub mod script;
 pub mod session;
 pub mod shape;
 pub mod spelled;
-#[cfg(test)]
-mod tests;
 pub mod transcript;
 pub mod words;

@@ -3,7 +3,8 @@ ghost use mathlib.Core.Path.{_≡_};
 ghost use mathlib.Core.List.{_++_};
 ghost use Rattle.std.specs.Of.Vec.{vec-items};
 ghost use Rattle.std.specs.Results.{Cases};
-ghost use Rattle.scripts.specs.Drafts.{levels-of, Adds, spelled-shape};
+ghost use Rattle.scripts.specs.Drafts.{levels-of, Adds};
+ghost use Rattle.scripts.specs.Scenes.{Answered, sketch, given-levels, given-figures};
 ghost use Rattle.scripts.specs.Words.{words-left};
 use crate::draft::Draft;
 use crate::fault::ScriptFault;
@@ -34,17 +35,21 @@ fn add_levels<S: Spelled>(shape: &S, list: &mut Vec<S::Value>, mut words: Words<
 impl Draft {
     /// Adds the levels of a line to those of the types.
     pub fn add_type_levels(&mut self, words: Words<'_>) -> Result<(), ScriptFault>
-        ensures levels { λ r. ⌜ Adds r (levels-of (spelled-shape (now (self .entry) .shape)) (words-left (words .entry))) (vec-items (now (self .entry) .levels)) (vec-items (now (self .exit) .levels)) ⌝ }
-        ensures rest { λ _. ⌜ (now (self .exit) .shape ≡ now (self .entry) .shape) × (now (self .exit) .plan ≡ now (self .entry) .plan) × (vec-items (now (self .exit) .figures) ≡ vec-items (now (self .entry) .figures)) ⌝ }
+        ensures { λ r. ⌜ Answered r (given-levels (sketch (now (self .entry))) (words-left (words .entry))) (sketch (now (self .exit))) ⌝ }
     {
+        if self.plan.is_none() {
+            return Err(ScriptFault::WantsBook);
+        }
         add_levels(&self.shape, &mut self.levels, words)
     }
 
     /// Adds the levels of a line to those of the figures.
     pub fn add_figure_levels(&mut self, words: Words<'_>) -> Result<(), ScriptFault>
-        ensures figures { λ r. ⌜ Adds r (levels-of (spelled-shape (now (self .entry) .shape)) (words-left (words .entry))) (vec-items (now (self .entry) .figures)) (vec-items (now (self .exit) .figures)) ⌝ }
-        ensures rest { λ _. ⌜ (now (self .exit) .shape ≡ now (self .entry) .shape) × (now (self .exit) .plan ≡ now (self .entry) .plan) × (vec-items (now (self .exit) .levels) ≡ vec-items (now (self .entry) .levels)) ⌝ }
+        ensures { λ r. ⌜ Answered r (given-figures (sketch (now (self .entry))) (words-left (words .entry))) (sketch (now (self .exit))) ⌝ }
     {
+        if self.plan.is_none() {
+            return Err(ScriptFault::WantsBook);
+        }
         add_levels(&self.shape, &mut self.figures, words)
     }
 }

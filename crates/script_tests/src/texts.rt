@@ -1,13 +1,13 @@
 //! Examples of the text of scripts.
-use crate::hex::HexFault;
-use crate::hex::HexFaultDebug;
-use crate::hex::HexFaultPartialEq;
-use crate::hex::append_hex;
-use crate::number::number;
-use crate::parts::Parts;
-use crate::pieces::Pieces;
-use crate::words::Words;
-use crate::words::without_comment;
+use scripts::hex::HexFault;
+use scripts::hex::HexFaultDebug;
+use scripts::hex::HexFaultPartialEq;
+use scripts::hex::append_hex;
+use scripts::number::number;
+use scripts::parts::Parts;
+use scripts::pieces::Pieces;
+use scripts::words::Words;
+use scripts::words::without_comment;
 use std::test::*;
 
 fn is(found: Option<&[u8]>, wanted: &[u8]) -> Result<(), Fail> {
