@@ -1,6 +1,5 @@
 //! What a script has made so far, and its commands.
 use crate::draft::Draft;
-use crate::hex::HexFault;
 use crate::transcript::Transcript;
 use std::alloc::Global;
 
@@ -10,8 +9,9 @@ pub mod commands;
 #[derive(Clone, Copy)]
 pub struct Tally {
     scenarios: u64,
-    policies_made: u64,
-    policies_refused: u64,
+    // The answers of `policy`.
+    made: u64,
+    refused: u64,
 }
 
 /// The three byte lists of a program.

@@ -1,4 +1,10 @@
 //! The commands of a script.
+ghost use mathlib.Core.Path.{_≡_};
+ghost use Rattle.std.specs.Results.{Cases};
+ghost use Rattle.std.specs.declared.result.Result.the-variants.{Ok, Err};
+ghost use Rattle.scripts.specs.Drafts.{last};
+ghost use Rattle.scripts.specs.Scenes.{Answered, scene, bytes-in, no-bytes, only-word, scenario-begun, Latticed, book-chosen};
+ghost use Rattle.scripts.specs.Words.{words-left};
 use crate::draft::BookPlan;
 use crate::draft::Draft;
 use crate::fault::ScriptFault;
@@ -20,7 +26,9 @@ use levels::table::lattice::TableFaultFault;
 use std::alloc::Global;
 
 // That no word is left.
-fn no_more(mut words: Words<'_>) -> Result<(), ScriptFault> {
+fn no_more(mut words: Words<'_>) -> Result<(), ScriptFault>
+    ensures { λ r. ⌜ r ≡ last tt (words-left (words .entry)) ⌝ }
+{
     match words.take() {
         None => Ok(()),
         Some(_) => Err(ScriptFault::ExtraWord),
@@ -28,7 +36,9 @@ fn no_more(mut words: Words<'_>) -> Result<(), ScriptFault> {
 }
 
 // The one word that is left.
-fn only_word<'a>(mut words: Words<'a>) -> Result<&'a [u8], ScriptFault> {
+fn only_word<'a>(mut words: Words<'a>) -> Result<&'a [u8], ScriptFault>
+    ensures { λ r. ⌜ Cases r (λ word. only-word (words-left (words .entry)) ≡ Ok (now word)) (λ e. only-word (words-left (words .entry)) ≡ Err e) ⌝ }
+{
     let Some(word) = words.take() else {
         return Err(ScriptFault::MissingWord);
     };
@@ -37,7 +47,9 @@ fn only_word<'a>(mut words: Words<'a>) -> Result<&'a [u8], ScriptFault> {
 }
 
 impl Source {
-    pub fn new(heap: Global) -> Source {
+    pub fn new(heap: Global) -> Source
+        ensures { λ r. ⌜ bytes-in r ≡ no-bytes ⌝ }
+    {
         Source {
             nodes: Vec::new(heap),
             functions: Vec::new(heap),
@@ -45,7 +57,9 @@ impl Source {
         }
     }
 
-    fn clear(&mut self) {
+    fn clear(&mut self)
+        ensures { λ _. ⌜ bytes-in (now (self .exit)) ≡ no-bytes ⌝ }
+    {
         self.nodes.clear();
         self.functions.clear();
         self.apps.clear();
@@ -62,14 +76,16 @@ impl Session {
             source: Source::new(heap),
             tally: Tally {
                 scenarios: 0,
-                policies_made: 0,
-                policies_refused: 0,
+                made: 0,
+                refused: 0,
             },
             transcript: Transcript::new(heap),
         }
     }
 
-    fn scenario(&mut self, words: Words<'_>) -> Result<(), ScriptFault> {
+    fn scenario(&mut self, words: Words<'_>) -> Result<(), ScriptFault>
+        ensures { λ r. ⌜ Answered r (scenario-begun (scene (now (self .entry))) (words-left (words .entry))) (scene (now (self .exit))) ⌝ }
+    {
         let name = only_word(words)?;
         self.transcript.say("scenario ")?;
         self.transcript.copy(name)?;
@@ -81,7 +97,9 @@ impl Session {
         Ok(())
     }
 
-    fn lattice(&mut self, words: Words<'_>) -> Result<(), ScriptFault> {
+    fn lattice(&mut self, words: Words<'_>) -> Result<(), ScriptFault>
+        ensures { λ r. ⌜ Latticed (scene (now (self .entry))) (words-left (words .entry)) r (scene (now (self .exit))) ⌝ }
+    {
         match lattice(self.heap, words)? {
             Ok(shape) => {
                 self.transcript.say("lattice: made\n")?;
@@ -96,7 +114,9 @@ impl Session {
         Ok(())
     }
 
-    fn book(&mut self, words: Words<'_>) -> Result<(), ScriptFault> {
+    fn book(&mut self, words: Words<'_>) -> Result<(), ScriptFault>
+        ensures { λ r. ⌜ Answered r (book-chosen (scene (now (self .entry))) (words-left (words .entry))) (scene (now (self .exit))) ⌝ }
+    {
         let plan = BookPlan::read(words)?;
         if let Some(draft) = &mut self.draft {
             draft.choose(plan);
@@ -124,9 +144,9 @@ impl Session {
             return Err(ScriptFault::WantsLattice);
         };
         if draft.say_policy(self.heap, &mut self.transcript)? {
-            self.tally.policies_made = self.tally.policies_made.saturating_add(1);
+            self.tally.made = self.tally.made.saturating_add(1);
         } else {
-            self.tally.policies_refused = self.tally.policies_refused.saturating_add(1);
+            self.tally.refused = self.tally.refused.saturating_add(1);
         }
         Ok(())
     }
@@ -207,8 +227,8 @@ impl Session {
     /// The transcript of a script that ended without a fault, with its closing line.
     pub fn close(&mut self) -> Result<(), ScriptFault> {
         let scenarios = self.tally.scenarios;
-        let made = self.tally.policies_made;
-        let refused = self.tally.policies_refused;
+        let made = self.tally.made;
+        let refused = self.tally.refused;
         self.transcript.say(format_args!("done: {scenarios} scenarios, {made} policies made and {refused} refused, 0 programs accepted and 0 refused, 0 runs with a result and 0 cut\n"))?;
         Ok(())
     }
