@@ -6,3 +6,4 @@ mod Texts
 mod RowWords
 mod Shown
 mod Adding
+mod Scenery

@@ -3,7 +3,7 @@ ghost use mathlib.Core.Path.{_≡_};
 ghost use Rattle.std.specs.Results.{Cases};
 ghost use Rattle.std.specs.declared.result.Result.the-variants.{Ok, Err};
 ghost use Rattle.scripts.specs.Drafts.{last};
-ghost use Rattle.scripts.specs.Scenes.{Answered, scene, bytes-in, no-bytes, only-word, scenario-begun, Latticed, book-chosen};
+ghost use Rattle.scripts.specs.Scenes.{Answered, scene, bytes-in, no-bytes, only-word, scenario-begun, Latticed, book-chosen, levels-given, figures-given, Answered-within, policy-told, nodes-added, functions-added, apps-added, cleared};
 ghost use Rattle.scripts.specs.Words.{words-left};
 use crate::draft::BookPlan;
 use crate::draft::Draft;
@@ -124,21 +124,27 @@ impl Session {
         Ok(())
     }
 
-    fn levels(&mut self, words: Words<'_>) -> Result<(), ScriptFault> {
+    fn levels(&mut self, words: Words<'_>) -> Result<(), ScriptFault>
+        ensures { λ r. ⌜ Answered r (levels-given (scene (now (self .entry))) (words-left (words .entry))) (scene (now (self .exit))) ⌝ }
+    {
         let Some(draft) = &mut self.draft else {
             return Err(ScriptFault::WantsLattice);
         };
         draft.add_type_levels(words)
     }
 
-    fn figures(&mut self, words: Words<'_>) -> Result<(), ScriptFault> {
+    fn figures(&mut self, words: Words<'_>) -> Result<(), ScriptFault>
+        ensures { λ r. ⌜ Answered r (figures-given (scene (now (self .entry))) (words-left (words .entry))) (scene (now (self .exit))) ⌝ }
+    {
         let Some(draft) = &mut self.draft else {
             return Err(ScriptFault::WantsLattice);
         };
         draft.add_figure_levels(words)
     }
 
-    fn policy(&mut self, words: Words<'_>) -> Result<(), ScriptFault> {
+    fn policy(&mut self, words: Words<'_>) -> Result<(), ScriptFault>
+        ensures { λ r. ⌜ Answered-within r (λ lacking. policy-told lacking (scene (now (self .entry))) (words-left (words .entry))) (scene (now (self .exit))) ⌝ }
+    {
         no_more(words)?;
         let Some(draft) = &self.draft else {
             return Err(ScriptFault::WantsLattice);
@@ -151,22 +157,30 @@ impl Session {
         Ok(())
     }
 
-    fn nodes(&mut self, words: Words<'_>) -> Result<(), ScriptFault> {
+    fn nodes(&mut self, words: Words<'_>) -> Result<(), ScriptFault>
+        ensures { λ r. ⌜ Answered r (nodes-added (scene (now (self .entry))) (words-left (words .entry))) (scene (now (self .exit))) ⌝ }
+    {
         append_hex(&mut self.source.nodes, words.rest())?;
         Ok(())
     }
 
-    fn functions(&mut self, words: Words<'_>) -> Result<(), ScriptFault> {
+    fn functions(&mut self, words: Words<'_>) -> Result<(), ScriptFault>
+        ensures { λ r. ⌜ Answered r (functions-added (scene (now (self .entry))) (words-left (words .entry))) (scene (now (self .exit))) ⌝ }
+    {
         append_hex(&mut self.source.functions, words.rest())?;
         Ok(())
     }
 
-    fn apps(&mut self, words: Words<'_>) -> Result<(), ScriptFault> {
+    fn apps(&mut self, words: Words<'_>) -> Result<(), ScriptFault>
+        ensures { λ r. ⌜ Answered r (apps-added (scene (now (self .entry))) (words-left (words .entry))) (scene (now (self .exit))) ⌝ }
+    {
         append_hex(&mut self.source.apps, words.rest())?;
         Ok(())
     }
 
-    fn clear(&mut self, words: Words<'_>) -> Result<(), ScriptFault> {
+    fn clear(&mut self, words: Words<'_>) -> Result<(), ScriptFault>
+        ensures { λ r. ⌜ Answered r (cleared (scene (now (self .entry))) (words-left (words .entry))) (scene (now (self .exit))) ⌝ }
+    {
         no_more(words)?;
         self.source.clear();
         Ok(())
