@@ -10,3 +10,4 @@ pub mod Policies
 pub mod Drafts
 pub mod Faults
 pub mod Scenes
+pub mod Scripts

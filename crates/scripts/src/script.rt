@@ -19,6 +19,9 @@ pub fn perform(heap: Global, script: &[u8]) -> (Transcript, Result<(), LineFault
     }
     match session.close() {
         Ok(()) => (session.into_transcript(), Ok(())),
-        Err(fault) => (session.into_transcript(), Err(LineFault { line, fault })),
+        Err(_) => {
+            let fault = ScriptFault::Memory;
+            (session.into_transcript(), Err(LineFault { line, fault }))
+        }
     }
 }

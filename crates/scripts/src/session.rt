@@ -4,6 +4,21 @@ use crate::transcript::Transcript;
 use std::alloc::Global;
 
 pub mod commands;
+pub mod obey;
+
+/// The commands that follow `scenario`.
+#[derive(Clone, Copy, PartialEq, Eq, Debug)]
+pub enum Command {
+    Lattice,
+    Book,
+    Levels,
+    Figures,
+    Policy,
+    Nodes,
+    Functions,
+    Apps,
+    Clear,
+}
 
 /// What was done so far.
 #[derive(Clone, Copy)]

@@ -4,6 +4,7 @@ ghost use Rattle.std.specs.Results.{Cases};
 ghost use Rattle.std.specs.declared.result.Result.the-variants.{Ok, Err};
 ghost use Rattle.scripts.specs.Drafts.{last};
 ghost use Rattle.scripts.specs.Scenes.{Answered, scene, bytes-in, no-bytes, only-word, scenario-begun, Latticed, book-chosen, levels-given, figures-given, Answered-within, policy-told, nodes-added, functions-added, apps-added, cleared};
+ghost use Rattle.scripts.specs.Scripts.{opening};
 ghost use Rattle.scripts.specs.Words.{words-left};
 use crate::draft::BookPlan;
 use crate::draft::Draft;
@@ -15,11 +16,8 @@ use crate::lattice_words::lattice;
 use crate::session::Session;
 use crate::session::Source;
 use crate::session::Tally;
-use crate::shape::Shape;
 use crate::transcript::Transcript;
 use crate::words::Words;
-use crate::words::says;
-use crate::words::without_comment;
 use levels::refusal::Fault;
 use levels::refusal::RefusalDisplay;
 use levels::table::lattice::TableFaultFault;
@@ -68,7 +66,9 @@ impl Source {
 
 impl Session {
     /// Nothing done yet.
-    pub fn new(heap: Global) -> Session {
+    pub fn new(heap: Global) -> Session
+        ensures { λ r. ⌜ scene r ≡ opening ⌝ }
+    {
         Session {
             heap,
             begun: false,
@@ -83,7 +83,7 @@ impl Session {
         }
     }
 
-    fn scenario(&mut self, words: Words<'_>) -> Result<(), ScriptFault>
+    pub fn scenario(&mut self, words: Words<'_>) -> Result<(), ScriptFault>
         ensures { λ r. ⌜ Answered r (scenario-begun (scene (now (self .entry))) (words-left (words .entry))) (scene (now (self .exit))) ⌝ }
     {
         let name = only_word(words)?;
@@ -97,7 +97,7 @@ impl Session {
         Ok(())
     }
 
-    fn lattice(&mut self, words: Words<'_>) -> Result<(), ScriptFault>
+    pub fn lattice(&mut self, words: Words<'_>) -> Result<(), ScriptFault>
         ensures { λ r. ⌜ Latticed (scene (now (self .entry))) (words-left (words .entry)) r (scene (now (self .exit))) ⌝ }
     {
         match lattice(self.heap, words)? {
@@ -114,7 +114,7 @@ impl Session {
         Ok(())
     }
 
-    fn book(&mut self, words: Words<'_>) -> Result<(), ScriptFault>
+    pub fn book(&mut self, words: Words<'_>) -> Result<(), ScriptFault>
         ensures { λ r. ⌜ Answered r (book-chosen (scene (now (self .entry))) (words-left (words .entry))) (scene (now (self .exit))) ⌝ }
     {
         let plan = BookPlan::read(words)?;
@@ -124,7 +124,7 @@ impl Session {
         Ok(())
     }
 
-    fn levels(&mut self, words: Words<'_>) -> Result<(), ScriptFault>
+    pub fn levels(&mut self, words: Words<'_>) -> Result<(), ScriptFault>
         ensures { λ r. ⌜ Answered r (levels-given (scene (now (self .entry))) (words-left (words .entry))) (scene (now (self .exit))) ⌝ }
     {
         let Some(draft) = &mut self.draft else {
@@ -133,7 +133,7 @@ impl Session {
         draft.add_type_levels(words)
     }
 
-    fn figures(&mut self, words: Words<'_>) -> Result<(), ScriptFault>
+    pub fn figures(&mut self, words: Words<'_>) -> Result<(), ScriptFault>
         ensures { λ r. ⌜ Answered r (figures-given (scene (now (self .entry))) (words-left (words .entry))) (scene (now (self .exit))) ⌝ }
     {
         let Some(draft) = &mut self.draft else {
@@ -142,7 +142,7 @@ impl Session {
         draft.add_figure_levels(words)
     }
 
-    fn policy(&mut self, words: Words<'_>) -> Result<(), ScriptFault>
+    pub fn policy(&mut self, words: Words<'_>) -> Result<(), ScriptFault>
         ensures { λ r. ⌜ Answered-within r (λ lacking. policy-told lacking (scene (now (self .entry))) (words-left (words .entry))) (scene (now (self .exit))) ⌝ }
     {
         no_more(words)?;
@@ -157,98 +157,32 @@ impl Session {
         Ok(())
     }
 
-    fn nodes(&mut self, words: Words<'_>) -> Result<(), ScriptFault>
+    pub fn nodes(&mut self, words: Words<'_>) -> Result<(), ScriptFault>
         ensures { λ r. ⌜ Answered r (nodes-added (scene (now (self .entry))) (words-left (words .entry))) (scene (now (self .exit))) ⌝ }
     {
         append_hex(&mut self.source.nodes, words.rest())?;
         Ok(())
     }
 
-    fn functions(&mut self, words: Words<'_>) -> Result<(), ScriptFault>
+    pub fn functions(&mut self, words: Words<'_>) -> Result<(), ScriptFault>
         ensures { λ r. ⌜ Answered r (functions-added (scene (now (self .entry))) (words-left (words .entry))) (scene (now (self .exit))) ⌝ }
     {
         append_hex(&mut self.source.functions, words.rest())?;
         Ok(())
     }
 
-    fn apps(&mut self, words: Words<'_>) -> Result<(), ScriptFault>
+    pub fn apps(&mut self, words: Words<'_>) -> Result<(), ScriptFault>
         ensures { λ r. ⌜ Answered r (apps-added (scene (now (self .entry))) (words-left (words .entry))) (scene (now (self .exit))) ⌝ }
     {
         append_hex(&mut self.source.apps, words.rest())?;
         Ok(())
     }
 
-    fn clear(&mut self, words: Words<'_>) -> Result<(), ScriptFault>
+    pub fn clear(&mut self, words: Words<'_>) -> Result<(), ScriptFault>
         ensures { λ r. ⌜ Answered r (cleared (scene (now (self .entry))) (words-left (words .entry))) (scene (now (self .exit))) ⌝ }
     {
         no_more(words)?;
         self.source.clear();
         Ok(())
-    }
-
-    // A command of a scenario that has begun.
-    fn act(&mut self, command: &[u8], words: Words<'_>) -> Result<(), ScriptFault> {
-        if says(command, b"lattice") {
-            return self.lattice(words);
-        }
-        if says(command, b"book") {
-            return self.book(words);
-        }
-        if says(command, b"levels") {
-            return self.levels(words);
-        }
-        if says(command, b"figures") {
-            return self.figures(words);
-        }
-        if says(command, b"policy") {
-            return self.policy(words);
-        }
-        self.act_on_source(command, words)
-    }
-
-    // A command about the bytes of a program.
-    fn act_on_source(&mut self, command: &[u8], words: Words<'_>) -> Result<(), ScriptFault> {
-        if says(command, b"nodes") {
-            return self.nodes(words);
-        }
-        if says(command, b"functions") {
-            return self.functions(words);
-        }
-        if says(command, b"apps") {
-            return self.apps(words);
-        }
-        if says(command, b"clear") {
-            return self.clear(words);
-        }
-        Err(ScriptFault::UnknownCommand)
-    }
-
-    /// Obeys one line of a script.
-    pub fn obey(&mut self, line: &[u8]) -> Result<(), ScriptFault> {
-        let mut words = Words::new(without_comment(line));
-        let Some(command) = words.take() else {
-            return Ok(());
-        };
-        if says(command, b"scenario") {
-            return self.scenario(words);
-        }
-        if !self.begun {
-            return Err(ScriptFault::NoScenario);
-        }
-        self.act(command, words)
-    }
-
-    /// The transcript of a script that ended without a fault, with its closing line.
-    pub fn close(&mut self) -> Result<(), ScriptFault> {
-        let scenarios = self.tally.scenarios;
-        let made = self.tally.made;
-        let refused = self.tally.refused;
-        self.transcript.say(format_args!("done: {scenarios} scenarios, {made} policies made and {refused} refused, 0 programs accepted and 0 refused, 0 runs with a result and 0 cut\n"))?;
-        Ok(())
-    }
-
-    pub fn into_transcript(self) -> Transcript {
-        let Session { transcript, .. } = self;
-        transcript
     }
 }
