@@ -14,8 +14,18 @@ fn told(rt: &LibcRuntime, script: &[u8], transcript: &[u8], fault: &str) -> Resu
 
 #[test]
 fn out_of_turn(rt: LibcRuntime) -> Result<(), Fail> {
-    told(&rt, b"# nothing yet\n\npolicy", b"", "line 3: the first command of a script is 'scenario'")?;
-    told(&rt, b"scenario a\nlevels 1", b"scenario a\n", "line 2: no lattice is made")?;
+    told(
+        &rt,
+        b"# nothing yet\n\npolicy",
+        b"",
+        "line 3: the first command of a script is 'scenario'",
+    )?;
+    told(
+        &rt,
+        b"scenario a\nlevels 1",
+        b"scenario a\n",
+        "line 2: no lattice is made",
+    )?;
     told(
         &rt,
         b"scenario a\nlattice rows 3 2\nlevels 1\n",
@@ -32,17 +42,42 @@ fn out_of_turn(rt: LibcRuntime) -> Result<(), Fail> {
 
 #[test]
 fn words_at_fault(rt: LibcRuntime) -> Result<(), Fail> {
-    told(&rt, b"scenario a b", b"", "line 1: there is a word too many")?;
-    told(&rt, b"scenario a\ndance", b"scenario a\n", "line 2: there is no such command")?;
-    told(&rt, b"scenario a\nlattice rows 3 70000", b"scenario a\n", "line 2: the words are no lattice")?;
+    told(
+        &rt,
+        b"scenario a b",
+        b"",
+        "line 1: there is a word too many",
+    )?;
+    told(
+        &rt,
+        b"scenario a\ndance",
+        b"scenario a\n",
+        "line 2: there is no such command",
+    )?;
+    told(
+        &rt,
+        b"scenario a\nlattice rows 3 70000",
+        b"scenario a\n",
+        "line 2: the words are no lattice",
+    )?;
     told(
         &rt,
         b"scenario a\nlattice pair pair tags 1 pair tags 1 tags 1 tags 1",
         b"scenario a\n",
         "line 2: the words are no lattice",
     )?;
-    told(&rt, b"scenario a\nbook row 1 2", b"scenario a\n", "line 2: a word is missing")?;
-    told(&rt, b"scenario a\nnodes 0 1 2", b"scenario a\n", "line 2: the count of hexadecimal digits is odd")
+    told(
+        &rt,
+        b"scenario a\nbook row 1 2",
+        b"scenario a\n",
+        "line 2: a word is missing",
+    )?;
+    told(
+        &rt,
+        b"scenario a\nnodes 0 1 2",
+        b"scenario a\n",
+        "line 2: the count of hexadecimal digits is odd",
+    )
 }
 
 #[test]
@@ -63,7 +98,10 @@ fn levels_at_fault(rt: LibcRuntime) -> Result<(), Fail> {
 
 #[test]
 fn closes(rt: LibcRuntime) -> Result<(), Fail> {
-    let (left, ended) = perform(rt.alloc(), b"scenario a\nlattice pair tags 0 pair rows 1 tags 3\nbook fixed 1 1 1\nlevels 0/0/2\nfigures 1/255/0x3\npolicy # shown");
+    let (left, ended) = perform(
+        rt.alloc(),
+        b"scenario a\nlattice pair tags 0 pair rows 1 tags 3\nbook fixed 1 1 1\nlevels 0/0/2\nfigures 1/255/0x3\npolicy # shown",
+    );
     check(ended.is_ok())?;
     check_eq(
         left.bytes(),

@@ -1,13 +1,18 @@
 -- Levels that are given to the draft of a scene. Assumes nothing.
-use mathlib.Core.Path.{_≡_, ap, _∙_}
+use mathlib.Core.Path.{_≡_, refl, ap, _∙_}
+use Prim.Native.Nat.{ℕ}
 use mathlib.Core.List.{List}
 use mathlib.Core.Logic.{inl, inr, ⊎-elim}
 use Rattle.std.specs.declared.option.Option.the-variants.{Some}
 use Rattle.std.specs.declared.result.Result.{Result}
 use Rattle.std.specs.declared.result.Result.the-variants.{Ok, Err}
 use Rattle.scripts.specs.Drafts.{Word, and-then}
-use Rattle.scripts.specs.Scenes.{Sketch, Scene, Answered, over-lattice, redrafted}
+use Rattle.scripts.specs.Scenes.{Sketch, Scene, Answered, Silent, over-lattice, redrafted}
 use Rattle.scripts.specs.declared.fault.ScriptFault.{ScriptFault}
+
+pub unsaid : {U : Type 0} (r : Result U ScriptFault) (text : List ℕ) → Silent r text text
+unsaid (Ok u) text = tt
+unsaid (Err e) text = inr refl
 
 module _ (s : Scene) (d : Sketch) (here : s .draft ≡ Some d) (wanted : Sketch → Result Sketch ScriptFault) where
   passed : Sketch → Result Scene ScriptFault

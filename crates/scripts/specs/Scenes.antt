@@ -62,6 +62,10 @@ sketch d = record { shape = d .shape; plan = d .plan; levels = vec-items (d .lev
 abbrev pub Answered : {S U : Type 0} → Result U ScriptFault → Result S ScriptFault → S → Type 0
 Answered r wanted made = Cases r (λ _. wanted ≡ Ok made) (λ e. (e ≡ Memory) ⊎ (wanted ≡ Err e))
 
+-- a line at fault adds nothing to the transcript
+abbrev pub Silent : {U : Type 0} → Result U ScriptFault → List ℕ → List ℕ → Type 0
+Silent r old new = Cases r (λ _. Unit {0}) (λ e. (e ≡ Memory) ⊎ (new ≡ old))
+
 -- levels, where each word is one
 abbrev pub given : {X : Type 0} → Option (List ShapeLevel) → (List ShapeLevel → X) → Result X ScriptFault
 given None f = Err NoLevel

@@ -89,3 +89,18 @@ closing s =
 -- before the first line
 abbrev pub opening : Scene
 opening = record { begun = false; draft = None; bytes = no-bytes; tally = record { scenarios = 0; made = 0; refused = 0 }; text = [] }
+
+abbrev pub at-line : ℕ → ScriptFault → LineFault
+at-line n fault = record { line = n; fault = fault }
+
+-- What a script leaves, from a scene on, by the lines that are left and the number of those before: each line is obeyed in turn. The
+-- script ends with its closing line, or at the first line at fault, which adds nothing; where memory is lacking, the text is free.
+abbrev pub Performs : List (List ℕ) → Scene → ℕ → Result (Unit {0}) LineFault → List ℕ → Type 0
+Performs [] s n r text = ((r ≡ Ok tt) × (text ≡ s .text ++ closing s)) ⊎ (r ≡ Err (at-line n Memory))
+Performs (line ∷ lines) s n r text =
+    ((t : Scene) × Obeys s (line-words line) (Ok tt) t × Performs lines t (one-more n) r text)
+    ⊎ ((t : Scene) × (e : ScriptFault) × Obeys s (line-words line) (Err e) t × (r ≡ Err (at-line (one-more n) e)) × ((e ≡ Memory) ⊎ (text ≡ s .text)))
+
+-- the lines of a script
+abbrev pub lines-of : List ℕ → List (List ℕ)
+lines-of script = pieces-of 10 script

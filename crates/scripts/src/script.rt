@@ -1,4 +1,6 @@
 //! A whole script.
+ghost use Rattle.scripts.specs.Scripts.{Performs, lines-of, opening};
+ghost use Rattle.scripts.specs.Transcripts.{said};
 use crate::fault::LineFault;
 use crate::fault::ScriptFault;
 use crate::pieces::Pieces;
@@ -7,7 +9,9 @@ use crate::transcript::Transcript;
 use std::alloc::Global;
 
 /// The transcript of a script, and the fault that ended it, if one did.
-pub fn perform(heap: Global, script: &[u8]) -> (Transcript, Result<(), LineFault>) {
+pub fn perform(heap: Global, script: &[u8]) -> (Transcript, Result<(), LineFault>)
+    ensures { λ r. ⌜ Performs (lines-of (now (script .entry))) opening 0 (r .1) (said (r .0)) ⌝ }
+{
     let mut session = Session::new(heap);
     let mut lines = Pieces::new(script, b'\n');
     let mut line: usize = 0;

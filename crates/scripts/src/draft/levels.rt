@@ -20,7 +20,11 @@ use crate::spelled::level;
 use crate::words::Words;
 
 // Adds the levels that the words of a line write to the end of a list.
-fn add_levels<S: Spelled>(shape: &S, list: &mut Vec<S::Value>, mut words: Words<'_>) -> Result<(), ScriptFault>
+fn add_levels<S: Spelled>(
+    shape: &S,
+    list: &mut Vec<S::Value>,
+    mut words: Words<'_>,
+) -> Result<(), ScriptFault>
     ensures { λ r. ⌜ Adds r (levels-of (S·Spelled .spelled (now (shape .entry))) (words-left (words .entry))) (vec-items (now (list .entry))) (vec-items (now (list .exit))) ⌝ }
 {
     while let Some(word) = words.take() {

@@ -9,7 +9,7 @@ ghost use Rattle.levels.specs.Refusals.{answer, within-memory};
 ghost use Rattle.levels.specs.declared.refusal.Layer.the-variants.{Books};
 ghost use Rattle.books.specs.Made.{book-refusal};
 ghost use Rattle.scripts.specs.Policies.{policy-text, plan-verdict};
-ghost use Rattle.scripts.specs.Scenes.{sketch, sketch-verdict, Tells};
+ghost use Rattle.scripts.specs.Scenes.{sketch, sketch-verdict, Silent, Tells};
 ghost use Rattle.scripts.specs.Transcripts.{said};
 use crate::draft::BookKind;
 use crate::draft::BookPlan;
@@ -98,7 +98,8 @@ impl BookPlan {
 impl Draft {
     /// Makes the book that was chosen of the levels that were given, and shows it.
     pub fn say_policy(&self, heap: Global, transcript: &mut Transcript) -> Result<bool, ScriptFault>
-        ensures { λ r. ⌜ Tells r (λ lacking. sketch-verdict lacking (sketch (now (self .entry)))) (said (now (transcript .entry))) (said (now (transcript .exit))) ⌝ }
+        ensures made { λ r. ⌜ Tells r (λ lacking. sketch-verdict lacking (sketch (now (self .entry)))) (said (now (transcript .entry))) (said (now (transcript .exit))) ⌝ }
+        ensures silent { λ r. ⌜ Silent r (said (now (transcript .entry))) (said (now (transcript .exit))) ⌝ }
     {
         let Some(plan) = self.plan else {
             return Err(ScriptFault::WantsBook);

@@ -3,8 +3,9 @@ ghost use mathlib.Core.Path.{_≡_};
 ghost use Rattle.std.specs.Results.{Cases};
 ghost use Rattle.std.specs.declared.result.Result.the-variants.{Ok, Err};
 ghost use Rattle.scripts.specs.Drafts.{last};
-ghost use Rattle.scripts.specs.Scenes.{Answered, scene, bytes-in, no-bytes, only-word, scenario-begun, Latticed, book-chosen, levels-given, figures-given, Answered-within, policy-told, nodes-added, functions-added, apps-added, cleared};
+ghost use Rattle.scripts.specs.Scenes.{Answered, Silent, scene, bytes-in, no-bytes, only-word, scenario-begun, Latticed, book-chosen, levels-given, figures-given, Answered-within, policy-told, nodes-added, functions-added, apps-added, cleared};
 ghost use Rattle.scripts.specs.Scripts.{opening};
+ghost use Rattle.scripts.specs.Transcripts.{said};
 ghost use Rattle.scripts.specs.Words.{words-left};
 use crate::draft::BookPlan;
 use crate::draft::Draft;
@@ -84,7 +85,8 @@ impl Session {
     }
 
     pub fn scenario(&mut self, words: Words<'_>) -> Result<(), ScriptFault>
-        ensures { λ r. ⌜ Answered r (scenario-begun (scene (now (self .entry))) (words-left (words .entry))) (scene (now (self .exit))) ⌝ }
+        ensures made { λ r. ⌜ Answered r (scenario-begun (scene (now (self .entry))) (words-left (words .entry))) (scene (now (self .exit))) ⌝ }
+        ensures silent { λ r. ⌜ Silent r (said (now (self .entry) .transcript)) (said (now (self .exit) .transcript)) ⌝ }
     {
         let name = only_word(words)?;
         self.transcript.say("scenario ")?;
@@ -98,7 +100,8 @@ impl Session {
     }
 
     pub fn lattice(&mut self, words: Words<'_>) -> Result<(), ScriptFault>
-        ensures { λ r. ⌜ Latticed (scene (now (self .entry))) (words-left (words .entry)) r (scene (now (self .exit))) ⌝ }
+        ensures made { λ r. ⌜ Latticed (scene (now (self .entry))) (words-left (words .entry)) r (scene (now (self .exit))) ⌝ }
+        ensures silent { λ r. ⌜ Silent r (said (now (self .entry) .transcript)) (said (now (self .exit) .transcript)) ⌝ }
     {
         match lattice(self.heap, words)? {
             Ok(shape) => {
@@ -115,7 +118,8 @@ impl Session {
     }
 
     pub fn book(&mut self, words: Words<'_>) -> Result<(), ScriptFault>
-        ensures { λ r. ⌜ Answered r (book-chosen (scene (now (self .entry))) (words-left (words .entry))) (scene (now (self .exit))) ⌝ }
+        ensures made { λ r. ⌜ Answered r (book-chosen (scene (now (self .entry))) (words-left (words .entry))) (scene (now (self .exit))) ⌝ }
+        ensures silent { λ r. ⌜ Silent r (said (now (self .entry) .transcript)) (said (now (self .exit) .transcript)) ⌝ }
     {
         let plan = BookPlan::read(words)?;
         if let Some(draft) = &mut self.draft {
@@ -125,7 +129,8 @@ impl Session {
     }
 
     pub fn levels(&mut self, words: Words<'_>) -> Result<(), ScriptFault>
-        ensures { λ r. ⌜ Answered r (levels-given (scene (now (self .entry))) (words-left (words .entry))) (scene (now (self .exit))) ⌝ }
+        ensures made { λ r. ⌜ Answered r (levels-given (scene (now (self .entry))) (words-left (words .entry))) (scene (now (self .exit))) ⌝ }
+        ensures silent { λ r. ⌜ Silent r (said (now (self .entry) .transcript)) (said (now (self .exit) .transcript)) ⌝ }
     {
         let Some(draft) = &mut self.draft else {
             return Err(ScriptFault::WantsLattice);
@@ -134,7 +139,8 @@ impl Session {
     }
 
     pub fn figures(&mut self, words: Words<'_>) -> Result<(), ScriptFault>
-        ensures { λ r. ⌜ Answered r (figures-given (scene (now (self .entry))) (words-left (words .entry))) (scene (now (self .exit))) ⌝ }
+        ensures made { λ r. ⌜ Answered r (figures-given (scene (now (self .entry))) (words-left (words .entry))) (scene (now (self .exit))) ⌝ }
+        ensures silent { λ r. ⌜ Silent r (said (now (self .entry) .transcript)) (said (now (self .exit) .transcript)) ⌝ }
     {
         let Some(draft) = &mut self.draft else {
             return Err(ScriptFault::WantsLattice);
@@ -143,7 +149,8 @@ impl Session {
     }
 
     pub fn policy(&mut self, words: Words<'_>) -> Result<(), ScriptFault>
-        ensures { λ r. ⌜ Answered-within r (λ lacking. policy-told lacking (scene (now (self .entry))) (words-left (words .entry))) (scene (now (self .exit))) ⌝ }
+        ensures made { λ r. ⌜ Answered-within r (λ lacking. policy-told lacking (scene (now (self .entry))) (words-left (words .entry))) (scene (now (self .exit))) ⌝ }
+        ensures silent { λ r. ⌜ Silent r (said (now (self .entry) .transcript)) (said (now (self .exit) .transcript)) ⌝ }
     {
         no_more(words)?;
         let Some(draft) = &self.draft else {
@@ -158,28 +165,32 @@ impl Session {
     }
 
     pub fn nodes(&mut self, words: Words<'_>) -> Result<(), ScriptFault>
-        ensures { λ r. ⌜ Answered r (nodes-added (scene (now (self .entry))) (words-left (words .entry))) (scene (now (self .exit))) ⌝ }
+        ensures made { λ r. ⌜ Answered r (nodes-added (scene (now (self .entry))) (words-left (words .entry))) (scene (now (self .exit))) ⌝ }
+        ensures silent { λ r. ⌜ Silent r (said (now (self .entry) .transcript)) (said (now (self .exit) .transcript)) ⌝ }
     {
         append_hex(&mut self.source.nodes, words.rest())?;
         Ok(())
     }
 
     pub fn functions(&mut self, words: Words<'_>) -> Result<(), ScriptFault>
-        ensures { λ r. ⌜ Answered r (functions-added (scene (now (self .entry))) (words-left (words .entry))) (scene (now (self .exit))) ⌝ }
+        ensures made { λ r. ⌜ Answered r (functions-added (scene (now (self .entry))) (words-left (words .entry))) (scene (now (self .exit))) ⌝ }
+        ensures silent { λ r. ⌜ Silent r (said (now (self .entry) .transcript)) (said (now (self .exit) .transcript)) ⌝ }
     {
         append_hex(&mut self.source.functions, words.rest())?;
         Ok(())
     }
 
     pub fn apps(&mut self, words: Words<'_>) -> Result<(), ScriptFault>
-        ensures { λ r. ⌜ Answered r (apps-added (scene (now (self .entry))) (words-left (words .entry))) (scene (now (self .exit))) ⌝ }
+        ensures made { λ r. ⌜ Answered r (apps-added (scene (now (self .entry))) (words-left (words .entry))) (scene (now (self .exit))) ⌝ }
+        ensures silent { λ r. ⌜ Silent r (said (now (self .entry) .transcript)) (said (now (self .exit) .transcript)) ⌝ }
     {
         append_hex(&mut self.source.apps, words.rest())?;
         Ok(())
     }
 
     pub fn clear(&mut self, words: Words<'_>) -> Result<(), ScriptFault>
-        ensures { λ r. ⌜ Answered r (cleared (scene (now (self .entry))) (words-left (words .entry))) (scene (now (self .exit))) ⌝ }
+        ensures made { λ r. ⌜ Answered r (cleared (scene (now (self .entry))) (words-left (words .entry))) (scene (now (self .exit))) ⌝ }
+        ensures silent { λ r. ⌜ Silent r (said (now (self .entry) .transcript)) (said (now (self .exit) .transcript)) ⌝ }
     {
         no_more(words)?;
         self.source.clear();

@@ -2,7 +2,7 @@
 ghost use mathlib.Core.List.{_++_};
 ghost use mathlib.Core.Path.{_≡_};
 ghost use Rattle.std.specs.Vec.{made};
-ghost use Rattle.scripts.specs.Scenes.{scene};
+ghost use Rattle.scripts.specs.Scenes.{Silent, scene};
 ghost use Rattle.scripts.specs.Scripts.{policy-command-of, source-command-of, command-of, Acts, Obeys, line-words, closing};
 ghost use Rattle.scripts.specs.Transcripts.{said};
 ghost use Rattle.scripts.specs.Words.{words-left};
@@ -64,7 +64,8 @@ fn command(word: &[u8]) -> Option<Command>
 impl Session {
     // A command of a scenario that has begun.
     fn act(&mut self, command: Command, words: Words<'_>) -> Result<(), ScriptFault>
-        ensures { λ r. ⌜ Acts (scene (now (self .entry))) (words-left (words .entry)) r (scene (now (self .exit))) command ⌝ }
+        ensures made { λ r. ⌜ Acts (scene (now (self .entry))) (words-left (words .entry)) r (scene (now (self .exit))) command ⌝ }
+        ensures silent { λ r. ⌜ Silent r (said (now (self .entry) .transcript)) (said (now (self .exit) .transcript)) ⌝ }
     {
         match command {
             Command::Lattice => self.lattice(words),
@@ -81,7 +82,8 @@ impl Session {
 
     /// Obeys one line of a script.
     pub fn obey(&mut self, line: &[u8]) -> Result<(), ScriptFault>
-        ensures { λ r. ⌜ Obeys (scene (now (self .entry))) (line-words (now (line .entry))) r (scene (now (self .exit))) ⌝ }
+        ensures made { λ r. ⌜ Obeys (scene (now (self .entry))) (line-words (now (line .entry))) r (scene (now (self .exit))) ⌝ }
+        ensures silent { λ r. ⌜ Silent r (said (now (self .entry) .transcript)) (said (now (self .exit) .transcript)) ⌝ }
     {
         let mut words = Words::new(without_comment(line));
         let Some(word) = words.take() else {
@@ -106,7 +108,9 @@ impl Session {
         let scenarios = self.tally.scenarios;
         let made = self.tally.made;
         let refused = self.tally.refused;
-        self.transcript.say(format_args!("done: {scenarios} scenarios, {made} policies made and {refused} refused, 0 programs accepted and 0 refused, 0 runs with a result and 0 cut\n"))
+        self.transcript.say(format_args!(
+            "done: {scenarios} scenarios, {made} policies made and {refused} refused, 0 programs accepted and 0 refused, 0 runs with a result and 0 cut\n"
+        ))
     }
 
     pub fn into_transcript(self) -> Transcript

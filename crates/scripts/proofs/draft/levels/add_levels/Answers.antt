@@ -9,8 +9,11 @@ use Rattle.scripts.proofs.draft.levels.add_levels.Needs as need
 pub returns-in-rest-level : need.returns-in-rest-level
 returns-in-rest-level g c =
     let f = level-of (g .S·Spelled .spelled (c .args .shape .now)) in
-    inr (refl, added-none f (vec-items (c .args .list .now)) (words-left (c .args .words)) (sym (c .loop-word .inv)
-    ∙ added-stop f (vec-items (c .loop-word .list)) (c .in-Some .word .now) (words-left (c .take .last .self)) (words-left (c .loop-word .words)) (c .in-Some .ensures tt) (sym (c .in-rest-level .ensures tt))))
+    inr (
+      refl,
+      added-none f (vec-items (c .args .list .now)) (words-left (c .args .words)) (sym (c .loop-word .inv)
+          ∙ added-stop f (vec-items (c .loop-word .list)) (c .in-Some .word .now) (words-left (c .take .last .self)) (words-left (c .loop-word .words)) (c .in-Some .ensures tt) (sym (c .in-rest-level .ensures tt))),
+    )
 
 pub loop-word-again : need.loop-word-again
 loop-word-again g c =

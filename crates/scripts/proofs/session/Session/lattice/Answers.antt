@@ -12,17 +12,23 @@ use Rattle.scripts.specs.Scenes.{Scene, scene}
 use Rattle.scripts.proofs.session.Session.lattice.Needs as need
 
 pub returns-in-Continue-say : need.returns-in-Continue-say
-returns-in-Continue-say c = (
-  Ok (c .in-Ok .shape),
-  ap (λ m. Some (answer shape-text table-refusal m)) (sym (c .in-Ok .is)) ∙ c .in-Continue-shape .ensures tt,
-  search needs,
-)
+returns-in-Continue-say c = record {
+  made = (
+    Ok (c .in-Ok .shape),
+    ap (λ m. Some (answer shape-text table-refusal m)) (sym (c .in-Ok .is)) ∙ c .in-Continue-shape .ensures tt,
+    search needs,
+  );
+  silent = tt;
+}
 
 pub returns-in-Continue-say-2 : need.returns-in-Continue-say-2
 returns-in-Continue-say-2 c =
-    let s = scene (c .args .self .now) in (
-      Err (table-refusal (c .in-Err .fault)),
-      ap (λ m. Some (answer shape-text table-refusal m)) (sym (c .in-Err .is)) ∙ c .in-Continue-shape .ensures tt,
-      ap (λ (l : List ℕ). record { begun = s .begun; draft = None; bytes = s .bytes; tally = s .tally; text = l })
-          (c .in-Continue-say-2 .ensures tt ∙ ap (λ e. s .text ++ (codes "lattice: " ++ (refusal-text e ++ codes "\n"))) (c .refusal-refusal .ensures)),
-    )
+    let s = scene (c .args .self .now) in record {
+      made = (
+        Err (table-refusal (c .in-Err .fault)),
+        ap (λ m. Some (answer shape-text table-refusal m)) (sym (c .in-Err .is)) ∙ c .in-Continue-shape .ensures tt,
+        ap (λ (l : List ℕ). record { begun = s .begun; draft = None; bytes = s .bytes; tally = s .tally; text = l })
+            (c .in-Continue-say-2 .ensures tt ∙ ap (λ e. s .text ++ (codes "lattice: " ++ (refusal-text e ++ codes "\n"))) (c .refusal-refusal .ensures)),
+      );
+      silent = tt;
+    }

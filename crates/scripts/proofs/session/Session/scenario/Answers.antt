@@ -11,5 +11,5 @@ pub returns : need.returns
 returns c =
     let name = c .in-Continue-name .name .now in
     let text = more (said (c .args .self .now .transcript)) (codes "scenario ") (name ++ codes "\n") (c .in-Continue-say .ensures tt)
-        (more (said (c .say .last .self)) name (codes "\n") (c .in-Continue-copy .ensures tt) (c .in-Continue-say-2 .ensures tt)) in
-    search needs
+    (more (said (c .say .last .self)) name (codes "\n") (c .in-Continue-copy .ensures tt) (c .in-Continue-say-2 .ensures tt)) in
+    record { made = search needs; silent = tt }
