@@ -4,5 +4,6 @@ pub mod Examples
 mod BitSets
 mod TagLaws
 mod PairLaws
+mod EitherLaws
 mod RankLaws
 mod Exact

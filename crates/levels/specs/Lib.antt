@@ -3,6 +3,7 @@ pub mod Refusals
 pub mod Order
 pub mod Tags
 pub mod Pair
+pub mod Either
 pub mod Marks
 pub mod Bounds
 pub mod Tables

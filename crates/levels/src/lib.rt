@@ -2,6 +2,7 @@
 ghost use mathlib.Core.Path.{_≡_};
 ghost use Rattle.levels.specs.Order.{Order, Laws};
 
+pub mod either;
 mod marks;
 pub mod pair;
 pub mod refusal;

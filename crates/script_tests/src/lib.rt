@@ -1,0 +1,5 @@
+//! Examples of scripts, run.
+#[cfg(test)]
+mod faults;
+#[cfg(test)]
+mod texts;

@@ -1,0 +1,13 @@
+pub mod Pieces
+pub mod Words
+pub mod Numbers
+pub mod Hex
+pub mod Parts
+pub mod Transcripts
+pub mod Spelled
+pub mod Shapes
+pub mod Policies
+pub mod Drafts
+pub mod Faults
+pub mod Scenes
+pub mod Scripts
