@@ -1,0 +1,11 @@
+pub mod Seen
+pub mod Judging
+pub mod Bodies
+pub mod Owning
+pub mod Decoded
+pub mod Lowests
+pub mod Counts
+pub mod Chains
+pub mod Parents
+pub mod Filling
+pub mod Opening

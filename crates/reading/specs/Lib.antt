@@ -1,0 +1,16 @@
+pub mod Code
+pub mod Tree
+pub mod Layout
+pub mod SizeRule
+pub mod RecordRule
+pub mod CodeRule
+pub mod NamingRule
+pub mod CallRule
+pub mod OnceRule
+pub mod ScopeRule
+pub mod Verdict
+pub mod ReadingRefusal
+pub mod Sound
+pub mod Meaning
+pub mod Reading
+pub mod Opened

@@ -1,0 +1,33 @@
+//! Rule 6, of codes and operands.
+ghost use denote.Ref.{now};
+ghost use mathlib.Core.Path.{_≡_};
+ghost use Rattle.reading.specs.Meaning.{code-of};
+ghost use Rattle.reading.specs.CodeRule.{past, slot-broken, code-broken};
+use crate::decode;
+use crate::owners::Owners;
+use levels::search::Test;
+
+fn past(slots: u8, slot: Option<u8>) -> bool
+    ensures { λ r. ⌜ r ≡ past slots slot ⌝ }
+{
+    match slot {
+        None => false,
+        Some(a) => slots <= a,
+    }
+}
+
+// Whether the node has an unknown code, an unused operand that is not 0, or a slot that its function has not.
+#[derive(Drop)]
+pub struct Codes<'t, 'a> {
+    pub tree: &'t Owners<'a>,
+}
+
+pub impl<'t, 'a> Test for Codes<'t, 'a> as CodesTest {
+    ghost passes = { λ s i. code-broken (now (now (s .tree) .bytes .nodes)) (code-of (now (s .tree) .bytes)) i };
+
+    fn test(&self, i: u16) -> bool {
+        let bytes = self.tree.bytes;
+        decode::node(bytes.nodes, i).is_none()
+            || past(self.tree.function(i).slots, bytes.node(i).slot())
+    }
+}

@@ -1,0 +1,17 @@
+//! Reading: a program in bytes, read exactly, and written again.
+mod bytes;
+mod calls;
+mod codes;
+mod decode;
+pub mod fault;
+pub mod function;
+mod judge;
+mod marks;
+mod names;
+pub mod node;
+mod owners;
+mod parts;
+pub mod program;
+mod records;
+mod scopes;
+mod view;
