@@ -1,3 +1,4 @@
+pub mod Blocks
 pub mod Seen
 pub mod Judging
 pub mod Bodies

@@ -40,13 +40,17 @@ operator-of code =
     (cond (eqb code 0x14) (Some Less)
     (cond (eqb code 0x15) (Some Equal) None)))))
 
+abbrev pub operation-of : Option Operator → ℕ → ℕ → ℕ → ℕ → Option Expression
+operation-of None a b c d = None
+operation-of (Some o) a b c d = when (eqb a 0 && eqb d 0) (Operation o b c)
+
 -- a code, and the operands a, b, c and d; an operand that is not used is 0
 abbrev pub expression-of : ℕ → ℕ → ℕ → ℕ → ℕ → Option Expression
 expression-of code a b c d =
     cond (eqb code 0x01) (when (eqb a 0 && eqb b 0) (Constant (65536 * c + d)))
     (cond (eqb code 0x02) (when (eqb b 0 && (eqb c 0 && eqb d 0)) (Slot a))
     (cond (eqb code 0x03) (when (eqb b 0 && (eqb c 0 && eqb d 0)) (Figure a))
-    (cond (eqb a 0 && eqb d 0) (mapped (λ o. Operation o b c) (operator-of code)) None)))
+    (operation-of (operator-of code) a b c d)))
 
 abbrev pub command-of : ℕ → ℕ → ℕ → ℕ → ℕ → Option Command
 command-of code a b c d =

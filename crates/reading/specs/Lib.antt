@@ -8,6 +8,7 @@ pub mod NamingRule
 pub mod CallRule
 pub mod OnceRule
 pub mod ScopeRule
+pub mod Encoding
 pub mod Verdict
 pub mod ReadingRefusal
 pub mod Sound

@@ -3,7 +3,7 @@ ghost use mathlib.Core.Path.{_≡_};
 ghost use Prim.Native.Nat.{ℕ, _+_, _*_, _^_, _<_, _≤_};
 ghost use lib.ListN.{length};
 ghost use Rattle.levels.specs.Search.{when};
-ghost use Rattle.reading.specs.Layout.{byte, word, linked, operator-of, expression-of, command-of, argument-of, node-of};
+ghost use Rattle.reading.specs.Layout.{byte, word, linked, operator-of, operation-of, expression-of, command-of, argument-of, node-of};
 ghost use Rattle.reading.specs.Layout.{node-at, record-at, padded, untyped, slots-fit, function-at};
 use crate::function::Function;
 use crate::node::Command;
@@ -53,6 +53,15 @@ fn operator(code: u8) -> Option<Operator>
     }
 }
 
+fn operation(operator: Option<Operator>, a: u8, b: u16, c: u16, d: u16) -> Option<Expression>
+    ensures { λ r. ⌜ r ≡ operation-of operator a b c d ⌝ }
+{
+    match operator {
+        None => None,
+        Some(o) => when(a == 0 && d == 0, Expression::Operation(o, b, c)),
+    }
+}
+
 fn expression(code: u8, a: u8, b: u16, c: u16, d: u16) -> Option<Expression>
     ensures { λ r. ⌜ r ≡ expression-of code a b c d ⌝ }
 {
@@ -63,15 +72,7 @@ fn expression(code: u8, a: u8, b: u16, c: u16, d: u16) -> Option<Expression>
         ),
         0x02 => when(b == 0 && c == 0 && d == 0, Expression::Slot(a)),
         0x03 => when(b == 0 && c == 0 && d == 0, Expression::Figure(a)),
-        _ => {
-            if a != 0 || d != 0 {
-                return None;
-            }
-            match operator(code) {
-                Some(o) => Some(Expression::Operation(o, b, c)),
-                None => None,
-            }
-        }
+        _ => operation(operator(code), a, b, c, d),
     }
 }
 

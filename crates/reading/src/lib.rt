@@ -3,6 +3,7 @@ mod bytes;
 mod calls;
 mod codes;
 mod decode;
+mod encode;
 pub mod fault;
 pub mod function;
 mod judge;

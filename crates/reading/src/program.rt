@@ -8,6 +8,7 @@ use crate::node::Node;
 
 pub mod access;
 pub mod read;
+pub mod write;
 
 /// A program, which only reading makes. What reading has seen of it holds of every one.
 #[derive(Drop)]
@@ -27,4 +28,12 @@ pub struct Program {
     ghost calls_fit: { CallsFit (code (vec-items nodes) (vec-items functions) (vec-items apps)) },
     ghost named_once: { NamedOnce (code (vec-items nodes) (vec-items functions) (vec-items apps)) },
     ghost in_scope: { InScope (code (vec-items nodes) (vec-items functions) (vec-items apps)) },
+}
+
+/// A program written into bytes.
+#[derive(Drop)]
+pub struct Written {
+    pub nodes: Vec<u8>,
+    pub functions: Vec<u8>,
+    pub apps: Vec<u8>,
 }
