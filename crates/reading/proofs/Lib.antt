@@ -10,3 +10,7 @@ pub mod Chains
 pub mod Parents
 pub mod Filling
 pub mod Opening
+pub mod Facts
+pub mod Once
+pub mod ReadBack
+pub mod WriteBack

@@ -15,3 +15,6 @@ pub mod Sound
 pub mod Meaning
 pub mod Reading
 pub mod Opened
+pub mod Chain
+pub mod Naming
+pub mod Copies

@@ -57,3 +57,17 @@ NamedOnce c = Never (length (c .nodes)) (once-broken c)
 -- a slot is used only where it is usable, and no let takes a usable one
 abbrev pub InScope : Code → Type 0
 InScope c = Never (length (c .nodes)) (scope-broken c)
+
+-- all of it
+pub record Sound (c : Code) : Type 0 where
+  pub few-nodes : FewNodes c
+  pub few-functions : FewFunctions c
+  pub few-apps : FewApps c
+  pub slots-fit : SlotsFit c
+  pub types-whole : TypesWhole c
+  pub placed : Placed c
+  pub slots-there : SlotsThere c
+  pub names-fit : NamesFit c
+  pub calls-fit : CallsFit c
+  pub named-once : NamedOnce c
+  pub in-scope : InScope c

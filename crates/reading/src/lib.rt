@@ -7,6 +7,7 @@ mod encode;
 pub mod fault;
 pub mod function;
 mod judge;
+mod laws;
 mod marks;
 mod names;
 pub mod node;
@@ -16,3 +17,5 @@ pub mod program;
 mod records;
 mod scopes;
 mod view;
+
+pub use laws::laws_stand;
