@@ -14,3 +14,4 @@ pub mod Facts
 pub mod Once
 pub mod ReadBack
 pub mod WriteBack
+pub mod Programs

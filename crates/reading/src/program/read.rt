@@ -7,6 +7,8 @@ ghost use Rattle.std.specs.Of.Vec.{vec-items};
 ghost use Rattle.std.specs.Vec.{made};
 ghost use Rattle.levels.specs.Refusals.{answer, within-memory};
 ghost use Rattle.levels.specs.declared.refusal.Layer.the-variants.{Reading};
+ghost use Rattle.reading.specs.Copies.{Bytes};
+ghost use Rattle.reading.specs.Encoding.{lists, encoded};
 ghost use Rattle.reading.specs.Layout.{nodes-of, functions-of};
 ghost use Rattle.reading.specs.Reading.{program-code, lacked-memory};
 ghost use Rattle.reading.specs.ReadingRefusal.{reading-refusal};
@@ -55,18 +57,31 @@ impl From<AllocError> for ReadingFault as ReadingFaultFromAlloc {
     }
 }
 
+// Each byte is below 256: a proof learns it of a whole list by a pass, of which the compiler leaves nothing.
+fn all_bytes(list: &[u8])
+    ensures { λ _. ⌜ Bytes (now (list .entry)) ⌝ }
+{
+    for i in 0..list.len() {
+        let _ = decode::byte(list, i);
+    }
+}
+
 /// The program that the bytes are, or the first broken rule at its lowest place. Memory is wanted only for a program.
+/// Writing the program gives the bytes back.
 pub fn read_program(
     heap: Global,
     nodes: &[u8],
     functions: &[u8],
     apps: &[u8],
 ) -> Result<Program, ReadingFault>
-    ensures { λ r. ⌜ answer program-code reading-refusal r ≡ within-memory (lacked-memory r) Reading (verdict (now (nodes .entry)) (now (functions .entry)) (now (apps .entry))) ⌝ }
+    ensures answered { λ r. ⌜ answer program-code reading-refusal r ≡ within-memory (lacked-memory r) Reading (verdict (now (nodes .entry)) (now (functions .entry)) (now (apps .entry))) ⌝ }
+    ensures written_back { λ r. ⌜ made r (λ p. encoded (program-code p) ≡ lists (now (nodes .entry)) (now (functions .entry)) (now (apps .entry))) ⌝ }
 {
     if let Some(fault) = judge::refused(nodes, functions, apps) {
         return Err(fault);
     }
+    all_bytes(nodes);
+    all_bytes(functions);
     let nodes = nodes_of(heap, nodes)?;
     let functions = functions_of(heap, functions)?;
     let apps = Vec::from_slice(heap, apps)?;

@@ -4,6 +4,7 @@ ghost use mathlib.Core.Path.{_≡_};
 ghost use Rattle.std.specs.Of.Vec.{vec-items};
 ghost use Rattle.std.specs.Vec.{made};
 ghost use Rattle.std.specs.shelf.Lists.{joined};
+ghost use Rattle.reading.specs.Copies.{Reads-back};
 ghost use Rattle.reading.specs.Encoding.{node-bytes, function-bytes, lists, encoded};
 ghost use Rattle.reading.specs.Reading.{program-code, written-lists};
 use crate::encode;
@@ -35,9 +36,10 @@ impl Program {
         Ok(bytes)
     }
 
-    /// The three byte lists that the program is read from.
+    /// The three byte lists that the program is; reading them gives it back.
     pub fn write(&self, heap: Global) -> Result<Written, AllocError>
-        ensures { λ r. ⌜ made r (λ w. written-lists w ≡ encoded (program-code (now (self .entry)))) ⌝ }
+        ensures written { λ r. ⌜ made r (λ w. written-lists w ≡ encoded (program-code (now (self .entry)))) ⌝ }
+        ensures read_back { λ _. ⌜ Reads-back (program-code (now (self .entry))) ⌝ }
     {
         let nodes = self.written_nodes(heap)?;
         let functions = self.written_functions(heap)?;

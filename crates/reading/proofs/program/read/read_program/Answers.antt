@@ -1,12 +1,14 @@
-use mathlib.Core.Path.{_≡_, sym, subst, _∙_}
+use mathlib.Core.Path.{_≡_, sym, ap, subst, _∙_}
 use borrow.Author.Needs.{needs}
 use Rattle.std.specs.Of.Vec.{vec-items}
 use Rattle.std.specs.declared.option.Option.the-variants.{None}
 use Rattle.reading.specs.Code.{Code, code}
+use Rattle.reading.specs.Encoding.{encoded}
 use Rattle.reading.specs.Layout.{decoded}
 use Rattle.reading.specs.Verdict.{refused}
 use Rattle.reading.specs.Sound.{FewNodes, FewFunctions, FewApps, SlotsFit, TypesWhole, Placed, SlotsThere, NamesFit, CallsFit, NamedOnce, InScope}
 use Rattle.reading.proofs.Seen.{few-nodes, few-functions, few-apps, slots-good, types-whole, placed-good, slots-there, names-fit, calls-fit, named-once, in-scope, code-is}
+use Rattle.reading.proofs.WriteBack.{encoded-back}
 use Rattle.reading.proofs.program.read.read_program.Needs as need
 
 module _ (c : need.In-Continue-apps) where
@@ -15,6 +17,13 @@ module _ (c : need.In-Continue-apps) where
 
   good : refused (c .args .nodes .now) (c .args .functions .now) (c .args .apps .now) ≡ None
   good = sym (c .in-rest .ensures tt)
+
+pub returns : need.returns
+returns c =
+    let n = c .args .nodes .now in
+    let g = c .args .functions .now in
+    let p = c .args .apps .now in
+    record { answered = search needs; written-back = ap encoded (code-is n g p _ _ _ (c .in-Continue-nodes .ensures tt) (c .in-Continue-functions .ensures tt) (c .in-Continue-apps .ensures tt .made .0)) ∙ encoded-back n g p (c .all-bytes .ensures) (c .all-bytes-2 .ensures) (sym (c .in-rest .ensures tt)) }
 
 pub ghost-result : need.ghost-result
 ghost-result c =
