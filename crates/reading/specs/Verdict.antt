@@ -28,16 +28,21 @@ at-function number place = mapped (λ g. broken number (Function g)) place
 abbrev pub at-node : ℕ → Option ℕ → Option Refusal
 at-node number place = mapped (λ i. broken number (Node i)) place
 
--- rules 5 to 10, each over the whole program before the next
-unfoldable pub judged : List ℕ → List ℕ → Code → Option Refusal
-judged ns gs c =
-    or-else (at-function 5 (lowest (length (c .functions)) (record-broken gs c)))
-    (or-else (at-node 6 (lowest (length (c .nodes)) (code-broken ns c)))
+-- rules 6 to 10, each over the whole program before the next
+unfoldable pub judged-nodes : List ℕ → Code → Option Refusal
+judged-nodes ns c =
+    or-else (at-node 6 (lowest (length (c .nodes)) (code-broken ns c)))
     (or-else (at-node 7 (lowest (length (c .nodes)) (naming-broken c)))
     (or-else (at-node 8 (lowest (length (c .nodes)) (call-broken c)))
     (or-else (at-node 9 (lowest (length (c .nodes)) (once-broken c)))
-    (at-node 10 (lowest (length (c .nodes)) (scope-broken c)))))))
+    (at-node 10 (lowest (length (c .nodes)) (scope-broken c))))))
 
+-- rule 5 before them
+unfoldable pub judged : List ℕ → List ℕ → Code → Option Refusal
+judged ns gs c =
+    or-else (at-function 5 (lowest (length (c .functions)) (record-broken gs c))) (judged-nodes ns c)
+
+-- rule 4 before all
 abbrev pub refused : List ℕ → List ℕ → List ℕ → Option Refusal
 refused ns gs ps =
     cond (sizes-fit (length ns) (length gs) (length ps)) (judged ns gs (decoded ns gs ps)) (Some (broken 4 Whole))

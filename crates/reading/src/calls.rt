@@ -1,6 +1,8 @@
 //! Rule 8, of calls and their arguments.
 ghost use denote.Ref.{now};
 ghost use mathlib.Core.Path.{_≡_};
+ghost use lib.ListN.{length};
+ghost use Rattle.levels.specs.Search.{lowest};
 ghost use Rattle.reading.specs.Meaning.{code-of};
 ghost use Rattle.reading.specs.Tree.{following, next-of};
 ghost use Rattle.reading.specs.CallRule.{chained, call-fits, calls-well, call-broken};
@@ -9,6 +11,7 @@ use crate::node::Command;
 use crate::node::Node;
 use crate::owners::Owners;
 use levels::search::Test;
+use levels::search::lowest;
 
 impl Node {
     fn following(self) -> Option<Option<u16>>
@@ -65,11 +68,11 @@ impl<'a> Owners<'a> {
 
 // Whether the node calls a function that it may not, or with the wrong number of arguments.
 #[derive(Drop)]
-pub struct Calls<'t, 'a> {
-    pub tree: &'t Owners<'a>,
+struct Calls<'t, 'a> {
+    tree: &'t Owners<'a>,
 }
 
-pub impl<'t, 'a> Test for Calls<'t, 'a> as CallsTest {
+impl<'t, 'a> Test for Calls<'t, 'a> as CallsTest {
     ghost passes = { λ s i. call-broken (code-of (now (s .tree) .bytes)) i };
 
     fn test(&self, i: u16) -> bool {
@@ -77,5 +80,14 @@ pub impl<'t, 'a> Test for Calls<'t, 'a> as CallsTest {
             Node::Command(command) => !self.tree.call_fits(i, command),
             _ => false,
         }
+    }
+}
+
+impl<'a> Owners<'a> {
+    // The lowest node that breaks rule 8.
+    pub fn miscalled(&self) -> Option<u16>
+        ensures { λ r. ⌜ r ≡ lowest (length (code-of (now (self .entry) .bytes) .nodes)) (call-broken (code-of (now (self .entry) .bytes))) ⌝ }
+    {
+        lowest(self.bytes.node_count(), &Calls { tree: self })
     }
 }

@@ -6,23 +6,10 @@ ghost use Rattle.std.specs.Options.{mapped};
 ghost use Rattle.reading.specs.Meaning.{code-of};
 ghost use Rattle.reading.specs.ReadingRefusal.{reading-refusal};
 ghost use Rattle.reading.specs.SizeRule.{counts, sizes-fit};
-ghost use Rattle.reading.specs.Verdict.{judged, refused};
+ghost use Rattle.reading.specs.Verdict.{judged-nodes, judged, refused};
 use crate::bytes::Bytes;
-use crate::calls::Calls;
-use crate::calls::CallsTest;
-use crate::codes::Codes;
-use crate::codes::CodesTest;
 use crate::fault::ReadingFault;
-use crate::marks::Marks;
-use crate::marks::MarksTest;
-use crate::names::Names;
-use crate::names::NamesTest;
 use crate::owners::Owners;
-use crate::records::Records;
-use crate::records::RecordsTest;
-use crate::scopes::Scopes;
-use crate::scopes::ScopesTest;
-use levels::search::lowest;
 
 fn sizes_fit(nodes: usize, functions: usize, apps: usize) -> bool
     ensures { λ r. ⌜ r ≡ sizes-fit nodes functions apps ⌝ }
@@ -32,30 +19,39 @@ fn sizes_fit(nodes: usize, functions: usize, apps: usize) -> bool
         && (1 <= apps && apps <= 16)
 }
 
-// Rules 5 to 10, each over the whole program before the next.
-fn judge(bytes: Bytes<'_>) -> Option<ReadingFault>
-    ensures { λ r. ⌜ mapped reading-refusal r ≡ judged (now (bytes .entry .nodes)) (now (bytes .entry .functions)) (code-of (bytes .entry)) ⌝ }
-{
-    if let Some(g) = lowest(bytes.function_count(), &Records { bytes }) {
-        return Some(ReadingFault::Record(g as u8));
+impl<'a> Owners<'a> {
+    // Rules 6 to 10, each over the whole program before the next.
+    fn judge(&self) -> Option<ReadingFault>
+        ensures { λ r. ⌜ mapped reading-refusal r ≡ judged-nodes (now (now (self .entry) .bytes .nodes)) (code-of (now (self .entry) .bytes)) ⌝ }
+    {
+        if let Some(i) = self.malformed() {
+            return Some(ReadingFault::Malformed(i));
+        }
+        if let Some(i) = self.misnamed() {
+            return Some(ReadingFault::Misnamed(i));
+        }
+        if let Some(i) = self.miscalled() {
+            return Some(ReadingFault::Miscalled(i));
+        }
+        if let Some(i) = self.not_named_once() {
+            return Some(ReadingFault::NotNamedOnce(i));
+        }
+        match self.out_of_scope() {
+            Some(i) => Some(ReadingFault::OutOfScope(i)),
+            None => None,
+        }
     }
-    let tree = Owners::new(bytes);
-    let n = bytes.node_count();
-    if let Some(i) = lowest(n, &Codes { tree: &tree }) {
-        return Some(ReadingFault::Malformed(i));
-    }
-    if let Some(i) = lowest(n, &Names { tree: &tree }) {
-        return Some(ReadingFault::Misnamed(i));
-    }
-    if let Some(i) = lowest(n, &Calls { tree: &tree }) {
-        return Some(ReadingFault::Miscalled(i));
-    }
-    if let Some(i) = lowest(n, &Marks::new(&tree)) {
-        return Some(ReadingFault::NotNamedOnce(i));
-    }
-    match lowest(n, &Scopes::new(&tree)) {
-        Some(i) => Some(ReadingFault::OutOfScope(i)),
-        None => None,
+}
+
+impl<'a> Bytes<'a> {
+    // Rule 5, and then the others.
+    fn judge(self) -> Option<ReadingFault>
+        ensures { λ r. ⌜ mapped reading-refusal r ≡ judged (now (self .entry .nodes)) (now (self .entry .functions)) (code-of (self .entry)) ⌝ }
+    {
+        match self.broken_record() {
+            Some(g) => Some(ReadingFault::Record(g as u8)),
+            None => Owners::new(self).judge(),
+        }
     }
 }
 
@@ -65,9 +61,10 @@ pub fn refused<'a>(nodes: &'a [u8], functions: &'a [u8], apps: &'a [u8]) -> Opti
     if !sizes_fit(nodes.len(), functions.len(), apps.len()) {
         return Some(ReadingFault::Sizes);
     }
-    judge(Bytes {
+    let bytes = Bytes {
         nodes,
         functions,
         apps,
-    })
+    };
+    bytes.judge()
 }

@@ -1,12 +1,15 @@
 //! Rule 7, of what nodes name.
 ghost use denote.Ref.{now};
 ghost use mathlib.Core.Path.{_≡_};
+ghost use lib.ListN.{length};
+ghost use Rattle.levels.specs.Search.{lowest};
 ghost use Rattle.reading.specs.Meaning.{code-of};
 ghost use Rattle.reading.specs.NamingRule.{lies, part-fits, all-fit, is-body, ends-well, naming-broken};
 use crate::bytes::Bytes;
 use crate::owners::Owners;
 use crate::parts::Part;
 use levels::search::Test;
+use levels::search::lowest;
 
 // Whether node b lies below node i of a function that begins at `low`.
 fn lies(low: u32, i: u16, b: u16) -> bool
@@ -46,11 +49,11 @@ impl<'a> Owners<'a> {
 
 // Whether the node names one that it may not, or is a body and no command.
 #[derive(Drop)]
-pub struct Names<'t, 'a> {
-    pub tree: &'t Owners<'a>,
+struct Names<'t, 'a> {
+    tree: &'t Owners<'a>,
 }
 
-pub impl<'t, 'a> Test for Names<'t, 'a> as NamesTest {
+impl<'t, 'a> Test for Names<'t, 'a> as NamesTest {
     ghost passes = { λ s i. naming-broken (code-of (now (s .tree) .bytes)) i };
 
     fn test(&self, i: u16) -> bool {
@@ -58,5 +61,14 @@ pub impl<'t, 'a> Test for Names<'t, 'a> as NamesTest {
         let node = bytes.node(i);
         let ends_well = !self.tree.is_body(i) || node.is_command();
         !(ends_well && bytes.all_fit(bytes.start(self.tree.owner(i)), i, node.parts()))
+    }
+}
+
+impl<'a> Owners<'a> {
+    // The lowest node that breaks rule 7.
+    pub fn misnamed(&self) -> Option<u16>
+        ensures { λ r. ⌜ r ≡ lowest (length (code-of (now (self .entry) .bytes) .nodes)) (naming-broken (code-of (now (self .entry) .bytes))) ⌝ }
+    {
+        lowest(self.bytes.node_count(), &Names { tree: self })
     }
 }

@@ -1,11 +1,14 @@
 //! Rule 5, of function records.
 ghost use denote.Ref.{now};
 ghost use mathlib.Core.Path.{_≡_};
+ghost use lib.ListN.{length};
+ghost use Rattle.levels.specs.Search.{lowest};
 ghost use Rattle.reading.specs.Meaning.{code-of};
 ghost use Rattle.reading.specs.RecordRule.{last-function, placed, record-broken};
 use crate::bytes::Bytes;
 use crate::decode;
 use levels::search::Test;
+use levels::search::lowest;
 
 impl<'a> Bytes<'a> {
     fn is_last(&self, g: u16) -> bool
@@ -28,14 +31,23 @@ impl<'a> Bytes<'a> {
 
 // Whether the record breaks its layout, names a missing app, or ends where it may not.
 #[derive(Drop)]
-pub struct Records<'a> {
-    pub bytes: Bytes<'a>,
+struct Records<'a> {
+    bytes: Bytes<'a>,
 }
 
-pub impl<'a> Test for Records<'a> as RecordsTest {
+impl<'a> Test for Records<'a> as RecordsTest {
     ghost passes = { λ s g. record-broken (now (s .bytes .functions)) (code-of (s .bytes)) g };
 
     fn test(&self, g: u16) -> bool {
         !(decode::function(self.bytes.functions, g).is_some() && self.bytes.placed(g))
+    }
+}
+
+impl<'a> Bytes<'a> {
+    // The lowest function that breaks rule 5.
+    pub fn broken_record(&self) -> Option<u16>
+        ensures { λ r. ⌜ r ≡ lowest (length (code-of (now (self .entry)) .functions)) (record-broken (now (now (self .entry) .functions)) (code-of (now (self .entry)))) ⌝ }
+    {
+        lowest(self.function_count(), &Records { bytes: *self })
     }
 }

@@ -6,6 +6,7 @@ ghost use Prim.Native.Nat.{ℕ, _+_, _<_};
 ghost use lib.Dec.{ltb};
 ghost use lib.ListN.{length, getD};
 ghost use Rattle.std.specs.declared.option.Option.the-variants.{Some, None};
+ghost use Rattle.levels.specs.Search.{lowest};
 ghost use Rattle.reading.specs.Tree.{hit};
 ghost use Rattle.reading.specs.Meaning.{code-of};
 ghost use Rattle.reading.specs.NamingRule.{naming-broken};
@@ -17,6 +18,7 @@ use crate::node::Expression;
 use crate::node::Node;
 use crate::owners::Owners;
 use levels::search::Test;
+use levels::search::lowest;
 
 fn adding(a: u8, set: u16) -> u16
     ensures { λ r. ⌜ r ≡ adding a set ⌝ }
@@ -97,14 +99,14 @@ impl<'a> Bytes<'a> {
 
 // Whether the node uses a slot that is not usable there, or is a let of one that is.
 #[derive(Drop)]
-pub struct Scopes<'t, 'a> {
+struct Scopes<'t, 'a> {
     tree: &'t Owners<'a>,
     scopes: [u16; 4096],
     ghost filled: { (j : ℕ) → j < length (code-of (now tree .bytes) .nodes) → getD scopes j 0 ≡ scope (code-of (now tree .bytes)) (length (code-of (now tree .bytes) .nodes)) j },
 }
 
 impl<'t, 'a> Scopes<'t, 'a> {
-    pub fn new(tree: &'t Owners<'a>) -> Scopes<'t, 'a>
+    fn new(tree: &'t Owners<'a>) -> Scopes<'t, 'a>
         requires { ⌜ ((i : ℕ) → i < length (code-of (now tree .bytes) .nodes) → naming-broken (code-of (now tree .bytes)) i ≡ false) ⌝ }
         ensures { λ r. ⌜ now (r .tree) ≡ now (tree .entry) ⌝ }
     {
@@ -152,10 +154,20 @@ impl<'t, 'a> Scopes<'t, 'a> {
     }
 }
 
-pub impl<'t, 'a> Test for Scopes<'t, 'a> as ScopesTest {
+impl<'t, 'a> Test for Scopes<'t, 'a> as ScopesTest {
     ghost passes = { λ s i. scope-broken (code-of (now (s .tree) .bytes)) i };
 
     fn test(&self, i: u16) -> bool {
         i < self.tree.bytes.node_count() && !self.scoped(i, self.tree.bytes.node(i))
+    }
+}
+
+impl<'a> Owners<'a> {
+    // The lowest node that breaks rule 10.
+    pub fn out_of_scope(&self) -> Option<u16>
+        requires { ⌜ ((i : ℕ) → i < length (code-of (now self .bytes) .nodes) → naming-broken (code-of (now self .bytes)) i ≡ false) ⌝ }
+        ensures { λ r. ⌜ r ≡ lowest (length (code-of (now (self .entry) .bytes) .nodes)) (scope-broken (code-of (now (self .entry) .bytes))) ⌝ }
+    {
+        lowest(self.bytes.node_count(), &Scopes::new(self))
     }
 }
