@@ -1,7 +1,7 @@
 -- The lists that the bytes stand for, place by place.
-use mathlib.Core.Path.{_≡_, refl, sym, ap, _∙_}
+use mathlib.Core.Path.{_≡_, refl, sym, ap, ap₂, _∙_}
 use mathlib.Core.Bool.{true, false, _&&_, cond}
-use mathlib.Core.List.{List, map}
+use mathlib.Core.List.{List, [], _∷_, _++_, map}
 use mathlib.Core.Logic.{⊎-elim}
 use Prim.Native.Nat.{ℕ, _+_, _*_, _/_, _<_, _≤_}
 use native.Mathlib.Nat.{zero-add}
@@ -12,7 +12,7 @@ use Rattle.std.specs.Options.{valueOr}
 use Rattle.std.specs.declared.option.Option.the-variants.{Some, None}
 use Rattle.std.proofs.shelf.Lists.{getD-past}
 use Rattle.std.proofs.shelf.Tests.{cases-lt, and-left, lt-leb, cond-false}
-use Rattle.std.proofs.shelf.Counted.{length-map-counting, getD-map-counting}
+use Rattle.std.proofs.shelf.Counted.{length-map-counting, getD-map-counting, map-counting-more}
 use Rattle.levels.specs.Search.{when}
 use Rattle.reading.specs.Code.{no-node, no-function}
 use Rattle.reading.specs.Layout.{has, padded, slots-fit, record-at, node-at, function-at, nodes-of, functions-of}
@@ -49,3 +49,11 @@ function-is xs g =
     let past : length (functions-of xs) ≤ g = omega (arith, length-functions xs) in
     getD-past _ _ _ past ∙ sym (ap (λ o. valueOr o no-function) (no-function-past xs g h)))
     (cases-lt g (length xs / 24))
+
+-- one entry more
+pub decoded-more : {X : Type 0} (f : ℕ → X) (i : ℕ) (now was : List X) (x : X) → was ≡ map f (counting 0 i) → now ≡ was ++ (x ∷ []) → x ≡ f i → now ≡ map f (counting 0 (i + 1))
+decoded-more f i now was x ew en ex =
+    en ∙ (ap₂ (λ w y. w ++ (y ∷ [])) ew ex ∙ sym (map-counting-more f 0 i i (zero-add i)))
+
+pub decoded-all : {X : Type 0} (f : ℕ → X) (i n : ℕ) (now : List X) → i ≡ n → now ≡ map f (counting 0 i) → now ≡ map f (counting 0 n)
+decoded-all f i n now e h = h ∙ ap (λ k. map f (counting 0 k)) e

@@ -4,8 +4,8 @@ ghost use mathlib.Core.Path.{_≡_};
 ghost use lib.ListN.{length};
 ghost use Rattle.levels.specs.Search.{lowest};
 ghost use Rattle.reading.specs.Meaning.{code-of};
-ghost use Rattle.reading.specs.Tree.{following, next-of};
-ghost use Rattle.reading.specs.CallRule.{chained, call-fits, calls-well, call-broken};
+ghost use Rattle.reading.specs.Tree.{next-of};
+ghost use Rattle.reading.specs.CallRule.{chained, calls-well, call-broken};
 use crate::bytes::Bytes;
 use crate::node::Command;
 use crate::node::Node;
@@ -13,24 +13,16 @@ use crate::owners::Owners;
 use levels::search::Test;
 use levels::search::lowest;
 
-impl Node {
-    fn following(self) -> Option<Option<u16>>
-        ensures { λ r. ⌜ r ≡ following self ⌝ }
-    {
-        match self {
-            Node::Argument { next, .. } => Some(next),
-            _ => None,
-        }
-    }
-}
-
 impl<'a> Bytes<'a> {
     fn next_of(&self, argument: Option<u16>) -> Option<Option<u16>>
         ensures { λ r. ⌜ r ≡ next-of (code-of (now (self .entry))) argument ⌝ }
     {
         match argument {
             None => None,
-            Some(b) => self.node(b).following(),
+            Some(b) => match self.node(b) {
+                Node::Argument { next, .. } => Some(next),
+                _ => None,
+            },
         }
     }
 
@@ -50,15 +42,17 @@ impl<'a> Bytes<'a> {
 }
 
 impl<'a> Owners<'a> {
-    fn call_fits(&self, i: u16, command: Command) -> bool
-        ensures { λ r. ⌜ r ≡ call-fits (code-of (now (self .entry) .bytes)) i command ⌝ }
+    fn calls_well(&self, i: u16, node: Node) -> bool
+        ensures { λ r. ⌜ r ≡ calls-well (code-of (now (self .entry) .bytes)) i node ⌝ }
     {
-        match command {
-            Command::Call {
-                function: g,
-                arguments,
-                ..
-            } => g < self.owner(i)
+        match node {
+            Node::Command(
+                Command::Call {
+                    function: g,
+                    arguments,
+                    ..
+                },
+            ) => g < self.owner(i)
                 && self.bytes
                     .chained(self.bytes.function(g).parameters, arguments),
             _ => true,
@@ -76,10 +70,7 @@ impl<'t, 'a> Test for Calls<'t, 'a> as CallsTest {
     ghost passes = { λ s i. call-broken (code-of (now (s .tree) .bytes)) i };
 
     fn test(&self, i: u16) -> bool {
-        match self.tree.bytes.node(i) {
-            Node::Command(command) => !self.tree.call_fits(i, command),
-            _ => false,
-        }
+        !self.tree.calls_well(i, self.tree.bytes.node(i))
     }
 }
 

@@ -28,17 +28,6 @@ fn operator_code(operator: Operator) -> u8
     }
 }
 
-fn expression_operands(e: Expression) -> (u8, u8, u16, u16, u16)
-    ensures { λ r. ⌜ r ≡ expression-operands e ⌝ }
-{
-    match e {
-        Expression::Constant(v) => (0x01, 0, 0, (v / 65536) as u16, (v % 65536) as u16),
-        Expression::Slot(a) => (0x02, a, 0, 0, 0),
-        Expression::Figure(a) => (0x03, a, 0, 0, 0),
-        Expression::Operation(o, b, c) => (operator_code(o), 0, b, c, 0),
-    }
-}
-
 fn command_operands(e: Command) -> (u8, u8, u16, u16, u16)
     ensures { λ r. ⌜ r ≡ command-operands e ⌝ }
 {
@@ -71,18 +60,29 @@ fn operands(node: Node) -> (u8, u8, u16, u16, u16)
     ensures { λ r. ⌜ r ≡ operands node ⌝ }
 {
     match node {
-        Node::Expression(e) => expression_operands(e),
+        Node::Expression(Expression::Constant(v)) => (
+            0x01,
+            0,
+            0,
+            (v / 65536) as u16,
+            (v % 65536) as u16,
+        ),
+        Node::Expression(Expression::Slot(a)) => (0x02, a, 0, 0, 0),
+        Node::Expression(Expression::Figure(a)) => (0x03, a, 0, 0, 0),
+        Node::Expression(Expression::Operation(o, b, c)) => (operator_code(o), 0, b, c, 0),
         Node::Command(e) => command_operands(e),
         Node::Argument { value, next } => (0x30, 0, value, link(next), 0),
     }
 }
 
+// The higher byte of two.
 fn high(n: u16) -> u8
     ensures { λ r. ⌜ r ≡ n / 256 ⌝ }
 {
     (n / 256) as u8
 }
 
+// The lower byte of two.
 fn low(n: u16) -> u8
     ensures { λ r. ⌜ r ≡ n % 256 ⌝ }
 {

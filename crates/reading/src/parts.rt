@@ -36,30 +36,6 @@ fn next(argument: Option<u16>) -> Part
     }
 }
 
-impl Expression {
-    fn parts(self) -> (Part, Part, Part)
-        ensures { λ r. ⌜ r ≡ expression-parts self ⌝ }
-    {
-        match self {
-            Expression::Operation(_, b, c) => (
-                Part::Expression(b),
-                Part::Expression(c),
-                Part::Absent,
-            ),
-            _ => (Part::Absent, Part::Absent, Part::Absent),
-        }
-    }
-
-    fn slot(self) -> Option<u8>
-        ensures { λ r. ⌜ r ≡ expression-slot self ⌝ }
-    {
-        match self {
-            Expression::Slot(a) => Some(a),
-            _ => None,
-        }
-    }
-}
-
 impl Command {
     fn parts(self) -> (Part, Part, Part)
         ensures { λ r. ⌜ r ≡ command-parts self ⌝ }
@@ -87,17 +63,6 @@ impl Command {
             Command::Call { arguments, .. } => (next(arguments), Part::Absent, Part::Absent),
         }
     }
-
-    fn slot(self) -> Option<u8>
-        ensures { λ r. ⌜ r ≡ command-slot self ⌝ }
-    {
-        match self {
-            Command::SetSlot { slot, .. }
-            | Command::Let { slot, .. }
-            | Command::Call { slot, .. } => Some(slot),
-            _ => None,
-        }
-    }
 }
 
 impl Node {
@@ -105,7 +70,12 @@ impl Node {
         ensures { λ r. ⌜ r ≡ parts self ⌝ }
     {
         match self {
-            Node::Expression(e) => e.parts(),
+            Node::Expression(Expression::Operation(_, b, c)) => (
+                Part::Expression(b),
+                Part::Expression(c),
+                Part::Absent,
+            ),
+            Node::Expression(_) => (Part::Absent, Part::Absent, Part::Absent),
             Node::Command(e) => e.parts(),
             Node::Argument { value, next: after } => (
                 Part::Expression(value),
@@ -119,9 +89,13 @@ impl Node {
         ensures { λ r. ⌜ r ≡ slot-of self ⌝ }
     {
         match self {
-            Node::Expression(e) => e.slot(),
-            Node::Command(e) => e.slot(),
-            Node::Argument { .. } => None,
+            Node::Expression(Expression::Slot(slot)) => Some(slot),
+            Node::Command(
+                Command::SetSlot { slot, .. }
+                | Command::Let { slot, .. }
+                | Command::Call { slot, .. },
+            ) => Some(slot),
+            _ => None,
         }
     }
 

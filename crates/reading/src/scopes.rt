@@ -32,24 +32,13 @@ fn holds(set: u16, a: u8) -> bool
     a < 16 && (set >> a) % 2 == 1
 }
 
-impl Command {
-    fn within(self, j: u16, set: u16) -> u16
-        ensures { λ r. ⌜ r ≡ within-command self j set ⌝ }
-    {
-        match self {
-            Command::Let { slot, part, .. } => if part == j { adding(slot, set) } else { set },
-            _ => set,
-        }
-    }
-}
-
 impl Node {
     // What is usable in the part j of a node where the set is usable.
     fn within(self, j: u16, set: u16) -> u16
         ensures { λ r. ⌜ r ≡ within self j set ⌝ }
     {
         match self {
-            Node::Command(command) => command.within(j, set),
+            Node::Command(Command::Let { slot, part, .. }) if part == j => adding(slot, set),
             _ => set,
         }
     }
@@ -121,35 +110,16 @@ impl<'t, 'a> Scopes<'t, 'a> {
         a <= self.tree.function(i).parameters || holds(self.scopes[i as usize], a)
     }
 
-    fn expression_scoped(&self, i: u16, e: Expression) -> bool
-        requires { ⌜ i < length (code-of (now (now self .tree) .bytes) .nodes) ⌝ }
-        ensures { λ r. ⌜ r ≡ expression-scoped (code-of (now (now (self .entry) .tree) .bytes)) i e ⌝ }
-    {
-        match e {
-            Expression::Slot(a) => self.usable(i, a),
-            _ => true,
-        }
-    }
-
-    fn command_scoped(&self, i: u16, e: Command) -> bool
-        requires { ⌜ i < length (code-of (now (now self .tree) .bytes) .nodes) ⌝ }
-        ensures { λ r. ⌜ r ≡ command-scoped (code-of (now (now (self .entry) .tree) .bytes)) i e ⌝ }
-    {
-        match e {
-            Command::SetSlot { slot, .. } | Command::Call { slot, .. } => self.usable(i, slot),
-            Command::Let { slot, .. } => !self.usable(i, slot),
-            _ => true,
-        }
-    }
-
     fn scoped(&self, i: u16, node: Node) -> bool
         requires { ⌜ i < length (code-of (now (now self .tree) .bytes) .nodes) ⌝ }
         ensures { λ r. ⌜ r ≡ scoped (code-of (now (now (self .entry) .tree) .bytes)) i node ⌝ }
     {
         match node {
-            Node::Expression(e) => self.expression_scoped(i, e),
-            Node::Command(e) => self.command_scoped(i, e),
-            Node::Argument { .. } => true,
+            Node::Expression(Expression::Slot(slot)) => self.usable(i, slot),
+            Node::Command(Command::SetSlot { slot, .. } | Command::Call { slot, .. }) =>
+                self.usable(i, slot),
+            Node::Command(Command::Let { slot, .. }) => !self.usable(i, slot),
+            _ => true,
         }
     }
 }
