@@ -8,7 +8,8 @@ use lib.ListN.{length, getD, set, replicate, length-set}
 use lib.Seq.{getD-set-same, getD-set-other}
 use Rattle.std.proofs.shelf.Lists.{getD-replicate, length-replicate, getD-past}
 use Rattle.std.proofs.shelf.Tests.{cases-eq, cases-lt}
-use Rattle.reading.specs.Code.{Code, body, start, owner}
+use Rattle.reading.specs.declared.function.Function.{Function}
+use Rattle.reading.specs.Code.{Code, no-function, function, body, start, owner}
 use Rattle.reading.specs.Sound.{Placed}
 use Rattle.reading.proofs.Bodies.{place-is, start-next, owner-is, owner-past}
 
@@ -23,6 +24,38 @@ pub record Owned (c : Code) (xs : List ℕ) (i : ℕ) : Type 0 where
   pub size : length xs ≡ 4096
   pub below : (k : ℕ) → k < i → getD xs k 0 ≡ owner c k
   pub above : (k : ℕ) → i ≤ k → getD xs k 0 ≡ 0
+
+-- below place g the list has each function, and none from there on
+pub record Held (c : Code) (xs : List Function) (g : ℕ) : Type 0 where
+  pub size : length xs ≡ 64
+  pub below : (k : ℕ) → k < g → getD xs k no-function ≡ function c k
+  pub above : (k : ℕ) → g ≤ k → getD xs k no-function ≡ no-function
+
+pub held-none : (c : Code) (f : Function) → f ≡ no-function → Held c (replicate 64 f) 0
+held-none c f e = record {
+  size = length-replicate {A = Function} 64 f;
+  below = λ k lt. absurd (omega arith);
+  above = λ k le.
+      ⊎-elim (λ (q : k < 64). getD-replicate 64 k f no-function q ∙ e)
+      (λ (q : 64 ≤ k). let far : length (replicate 64 f) ≤ k = omega (arith, length-replicate {A = Function} 64 f) in getD-past (replicate 64 f) _ _ far)
+      (cases-lt k 64);
+}
+
+pub held-more : (c : Code) (xs : List Function) (g : ℕ) (f : Function) → g < 64 → f ≡ function c g → Held c xs g → Held c (set xs g f) (g + 1)
+held-more c xs g f room e h =
+    let short : g < length xs = omega (arith, h .size) in
+    record {
+      size = length-set xs g f ∙ h .size;
+      below = λ k lt.
+          ⊎-elim (λ (q : k ≡ g). rw (q, getD-set-same) e) (λ (q : k ≡ g → ⊥). let ne : k ≢ g = q in rw getD-set-other (h .below k (omega arith))) (cases-eq k g);
+      above = λ k le. let ne : k ≢ g = omega arith in rw getD-set-other (h .above k (omega arith));
+    }
+
+pub held-all : (c : Code) (xs : List Function) (n : ℕ) → length (c .functions) ≤ n → Held c xs n → (g : ℕ) → getD xs g no-function ≡ function c g
+held-all c xs n far h g =
+    ⊎-elim (λ (q : g < n). h .below g q)
+    (λ (q : n ≤ g). let past : length (c .functions) ≤ g = omega arith in h .above g q ∙ sym (getD-past (c .functions) _ _ past))
+    (cases-lt g n)
 
 pub reached-none : (c : Code) → 0 < length (c .functions) → Reached c 0 0
 reached-none c some = record { inside = some; begins = omega arith; ends = omega arith }

@@ -30,8 +30,7 @@ impl<'t, 'a> Test for Codes<'t, 'a> as CodesTest {
 
     fn test(&self, i: u16) -> bool {
         let bytes = self.tree.bytes;
-        decode::node(bytes.nodes, i).is_none()
-            || past(self.tree.function(i).slots, bytes.node(i).slot())
+        decode::node(bytes.nodes, i).is_none() || past(self.tree.own(i).slots, bytes.node(i).slot())
     }
 }
 

@@ -43,7 +43,7 @@ impl<'a> Owners<'a> {
     pub fn is_body(&self, i: u16) -> bool
         ensures { λ r. ⌜ r ≡ is-body (code-of (now (self .entry) .bytes)) i ⌝ }
     {
-        i == self.function(i).body
+        i == self.own(i).body
     }
 }
 
@@ -60,7 +60,7 @@ impl<'t, 'a> Test for Names<'t, 'a> as NamesTest {
         let bytes = self.tree.bytes;
         let node = bytes.node(i);
         let ends_well = !self.tree.is_body(i) || node.is_command();
-        !(ends_well && bytes.all_fit(bytes.start(self.tree.owner(i)), i, node.parts()))
+        !(ends_well && bytes.all_fit(self.tree.start(self.tree.owner(i)), i, node.parts()))
     }
 }
 

@@ -107,7 +107,7 @@ impl<'t, 'a> Scopes<'t, 'a> {
         requires { ⌜ i < length (code-of (now (now self .tree) .bytes) .nodes) ⌝ }
         ensures { λ r. ⌜ r ≡ usable (code-of (now (now (self .entry) .tree) .bytes)) i a ⌝ }
     {
-        a <= self.tree.function(i).parameters || holds(self.scopes[i as usize], a)
+        a <= self.tree.own(i).parameters || holds(self.scopes[i as usize], a)
     }
 
     fn scoped(&self, i: u16, node: Node) -> bool
