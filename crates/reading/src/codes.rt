@@ -30,7 +30,10 @@ impl<'t, 'a> Test for Codes<'t, 'a> as CodesTest {
 
     fn test(&self, i: u16) -> bool {
         let bytes = self.tree.bytes;
-        decode::node(bytes.nodes, i).is_none() || past(self.tree.own(i).slots, bytes.node(i).slot())
+        match decode::node(bytes.nodes, i) {
+            None => true,
+            Some(node) => past(self.tree.own(i).slots, node.slot()),
+        }
     }
 }
 
