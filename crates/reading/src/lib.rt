@@ -12,7 +12,7 @@ mod marks;
 mod names;
 pub mod node;
 mod owners;
-mod parts;
+pub mod parts;
 pub mod program;
 mod records;
 mod scopes;
