@@ -1,0 +1,17 @@
+pub mod Blocks
+pub mod Seen
+pub mod Judging
+pub mod Bodies
+pub mod Owning
+pub mod Decoded
+pub mod Lowests
+pub mod Counts
+pub mod Chains
+pub mod Parents
+pub mod Filling
+pub mod Opening
+pub mod Facts
+pub mod Once
+pub mod ReadBack
+pub mod WriteBack
+pub mod Programs

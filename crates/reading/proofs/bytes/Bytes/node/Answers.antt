@@ -1,0 +1,11 @@
+use mathlib.Core.Path.{sym, ap, _∙_}
+use Rattle.std.specs.Options.{valueOr}
+use Rattle.reading.specs.Layout.{node-at}
+use Rattle.reading.specs.Code.{no-node}
+use Rattle.reading.proofs.Decoded.{node-is}
+use Rattle.reading.proofs.bytes.Bytes.node.Needs as need
+
+pub returns : need.returns
+returns c =
+    c .unwrap-or .ensures ∙ (ap (λ n. valueOr (c .node .result) n) (c .no-node .ensures)
+    ∙ (ap (λ o. valueOr o no-node) (c .node .ensures) ∙ sym (node-is (c .args .self .now .nodes .now) (c .args .i))))

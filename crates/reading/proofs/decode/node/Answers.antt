@@ -1,0 +1,11 @@
+use borrow.Author.Needs.{needs}
+use Rattle.reading.specs.Layout.{node-at}
+use Rattle.reading.proofs.decode.node.Needs as need
+
+pub returns-then-list-at : need.returns-then-list-at
+unfolding node-at
+returns-then-list-at c = search needs
+
+pub returns : need.returns
+unfolding node-at
+returns c = search needs
