@@ -4,13 +4,13 @@ use mathlib.Core.List.{List}
 use Prim.Native.Nat.{ℕ}
 use Rattle.std.specs.Options.{isSome, valueOr}
 use Rattle.std.specs.declared.option.Option.the-variants.{Some}
-use Rattle.reading.specs.declared.node.Node.{Node}
-use Rattle.reading.specs.declared.function.Function.{Function}
-use Rattle.reading.specs.Code.{Code, no-node, node, function, owner}
-use Rattle.reading.specs.Tree.{slot-of}
-use Rattle.reading.specs.Layout.{node-at, decoded}
+use Rattle.layout.specs.declared.node.Node.{Node}
+use Rattle.layout.specs.declared.function.Function.{Function}
+use Rattle.layout.specs.Code.{Code, no-node, node, function, owner}
+use Rattle.layout.specs.Tree.{slot-of}
+use Rattle.layout.specs.Layout.{node-at, decoded}
 use Rattle.reading.specs.CodeRule.{past, slot-broken, code-broken}
-use Rattle.reading.proofs.Decoded.{node-is}
+use Rattle.layout.proofs.Decoded.{node-is}
 use Rattle.reading.proofs.codes.CodesTest.test.Needs as need
 
 known : (ns gs ps : List ℕ) (i : ℕ) (n : Node) → node-at ns i ≡ Some n → past (function (decoded ns gs ps) (owner (decoded ns gs ps) i) .slots) (slot-of n) ≡ code-broken ns (decoded ns gs ps) i
