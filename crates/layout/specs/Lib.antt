@@ -1,4 +1,4 @@
 pub mod Code
 pub mod Tree
-pub mod Layout
+pub mod Decoding
 pub mod Encoding

@@ -14,7 +14,7 @@ use Rattle.std.proofs.shelf.Tests.{and-parts, or-cases, not-false, not-true, no
 use Rattle.levels.specs.Search.{lowest}
 use Rattle.levels.proofs.Searches.{lowest-found}
 use Rattle.layout.specs.Code.{Code, function, body, start, owner}
-use Rattle.layout.specs.Layout.{function-at}
+use Rattle.layout.specs.Decoding.{function-at}
 use Rattle.reading.specs.RecordRule.{last-function, placed, record-broken}
 use Rattle.reading.specs.Sound.{FewFunctions, Placed}
 use Rattle.reading.proofs.Lowests.{lowest-all, lowest-is, lowest-inside, lowest-absent}

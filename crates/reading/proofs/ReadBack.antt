@@ -26,7 +26,7 @@ use Rattle.layout.specs.declared.node.Node.the-variants.{Expression as Exp, Com
 use Rattle.layout.specs.declared.function.Function.{Function}
 use Rattle.layout.specs.Code.{Code, code, node, function, owner, start, no-node, no-function}
 use Rattle.layout.specs.Tree.{parts, next-part}
-use Rattle.layout.specs.Layout.{byte, word, linked, node-of, has, node-at, record-at, padded, slots-fit, function-at, nodes-of, functions-of, decoded}
+use Rattle.layout.specs.Decoding.{byte, word, linked, node-of, has, node-at, record-at, padded, slots-fit, function-at, nodes-of, functions-of, decoded}
 use Rattle.layout.specs.Encoding.{link, operands, eight, node-bytes, function-head, function-bytes, encoded}
 use Rattle.reading.specs.SizeRule.{counts, sizes-fit}
 use Rattle.reading.specs.RecordRule.{placed, record-broken}

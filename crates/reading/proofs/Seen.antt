@@ -19,7 +19,7 @@ use Rattle.levels.specs.Refusals.{broken}
 use Rattle.layout.specs.declared.function.Function.{Function}
 use Rattle.layout.specs.declared.node.Node.{Node}
 use Rattle.layout.specs.Code.{Code, code, function, no-function}
-use Rattle.layout.specs.Layout.{has, padded, slots-fit, record-at, node-at, function-at, nodes-of, functions-of, decoded}
+use Rattle.layout.specs.Decoding.{has, padded, slots-fit, record-at, node-at, function-at, nodes-of, functions-of, decoded}
 use Rattle.reading.specs.SizeRule.{counts, sizes-fit}
 use Rattle.reading.specs.RecordRule.{placed, record-broken}
 use Rattle.reading.specs.CodeRule.{slot-broken, code-broken}

@@ -29,7 +29,7 @@ use Rattle.layout.specs.declared.node.Node.{Node}
 use Rattle.layout.specs.declared.node.Node.the-variants.{Expression as Exp, Command as Com, Argument}
 use Rattle.layout.specs.declared.function.Function.{Function}
 use Rattle.layout.specs.Code.{Code, no-node, no-function}
-use Rattle.layout.specs.Layout.{byte, word, linked, operator-of, operation-of, expression-of, command-of, argument-of, node-of, has, node-at, record-at, padded, slots-fit, function-at, nodes-of, functions-of, decoded}
+use Rattle.layout.specs.Decoding.{byte, word, linked, operator-of, operation-of, expression-of, command-of, argument-of, node-of, has, node-at, record-at, padded, slots-fit, function-at, nodes-of, functions-of, decoded}
 use Rattle.layout.specs.Encoding.{link, operator-code, expression-operands, command-operands, operands, eight, node-bytes, function-head, function-bytes, Lists, lists, encoded}
 use Rattle.reading.specs.Verdict.{refused, unless, verdict}
 use Rattle.reading.specs.Copies.{Bytes}

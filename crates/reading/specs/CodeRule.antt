@@ -8,7 +8,7 @@ use Rattle.std.specs.declared.option.Option.{Option}
 use Rattle.std.specs.declared.option.Option.the-variants.{Some, None}
 use Rattle.layout.specs.Code.{Code, node, function, owner}
 use Rattle.layout.specs.Tree.{slot-of}
-use Rattle.layout.specs.Layout.{node-at}
+use Rattle.layout.specs.Decoding.{node-at}
 
 -- a slot that a function of m slots has not
 abbrev pub past : ℕ → Option ℕ → Bool

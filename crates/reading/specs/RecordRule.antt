@@ -6,7 +6,7 @@ use lib.Dec.{eqb, ltb, leb}
 use lib.ListN.{length}
 use Rattle.std.specs.Options.{isSome}
 use Rattle.layout.specs.Code.{Code, function, body, start}
-use Rattle.layout.specs.Layout.{function-at}
+use Rattle.layout.specs.Decoding.{function-at}
 
 abbrev pub last-function : Code → ℕ → Bool
 last-function c g = eqb (g + 1) (length (c .functions))

@@ -4,7 +4,7 @@ use mathlib.Core.Bool.{Bool, false, not, _&&_}
 use Prim.Native.Nat.{ℕ, _<_, _≤_}
 use lib.ListN.{length}
 use Rattle.layout.specs.Code.{Code, function}
-use Rattle.layout.specs.Layout.{slots-fit}
+use Rattle.layout.specs.Decoding.{slots-fit}
 use Rattle.reading.specs.RecordRule.{placed}
 use Rattle.reading.specs.CodeRule.{slot-broken}
 use Rattle.reading.specs.NamingRule.{naming-broken}

@@ -3,7 +3,7 @@ ghost use denote.Ref.{now};
 ghost use mathlib.Core.Path.{_≡_};
 ghost use lib.ListN.{length};
 ghost use Rattle.layout.specs.Code.{node, function, as-expression, as-command, expression, command};
-ghost use Rattle.layout.specs.Layout.{byte};
+ghost use Rattle.layout.specs.Decoding.{byte};
 ghost use Rattle.reading.specs.Reading.{program-code};
 use crate::program::Program;
 use crate::view::no_function;

@@ -9,7 +9,7 @@ ghost use Rattle.levels.specs.Refusals.{answer, within-memory};
 ghost use Rattle.levels.specs.declared.refusal.Layer.the-variants.{Reading};
 ghost use Rattle.reading.specs.Copies.{Bytes};
 ghost use Rattle.layout.specs.Encoding.{lists, encoded};
-ghost use Rattle.layout.specs.Layout.{nodes-of, functions-of};
+ghost use Rattle.layout.specs.Decoding.{nodes-of, functions-of};
 ghost use Rattle.reading.specs.Reading.{program-code, lacked-memory};
 ghost use Rattle.reading.specs.ReadingRefusal.{reading-refusal};
 ghost use Rattle.reading.specs.Verdict.{verdict};

@@ -1,5 +1,5 @@
 use borrow.Author.Needs.{needs}
-use Rattle.layout.specs.Layout.{node-at}
+use Rattle.layout.specs.Decoding.{node-at}
 use Rattle.layout.proofs.decode.node.Needs as need
 
 pub returns-then-list-at : need.returns-then-list-at

@@ -1,5 +1,5 @@
 use mathlib.Core.Path.{_∙_}
-use Rattle.layout.specs.Layout.{node-of}
+use Rattle.layout.specs.Decoding.{node-of}
 use Rattle.layout.proofs.decode.one_of.Needs as need
 
 pub returns-in-Some : need.returns-in-Some

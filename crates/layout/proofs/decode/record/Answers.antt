@@ -3,7 +3,7 @@ use mathlib.Core.List.{List}
 use Prim.Native.Nat.{ℕ, _+_, _-_, _*_}
 use native.Mathlib.Omega.{arith}
 use lib.ListN.{take, drop}
-use Rattle.layout.specs.Layout.{byte, word, record-at}
+use Rattle.layout.specs.Decoding.{byte, word, record-at}
 use Rattle.layout.specs.declared.function.Function.{Function}
 use Rattle.layout.proofs.decode.record.Needs as need
 

@@ -1,6 +1,6 @@
 use mathlib.Core.Path.{sym, ap, _∙_}
 use Rattle.std.specs.Options.{valueOr}
-use Rattle.layout.specs.Layout.{function-at}
+use Rattle.layout.specs.Decoding.{function-at}
 use Rattle.layout.specs.Code.{no-function}
 use Rattle.layout.proofs.Decoded.{function-is}
 use Rattle.reading.proofs.bytes.Bytes.function.Needs as need

@@ -1,6 +1,6 @@
 use mathlib.Core.Path.{sym, ap, _∙_}
 use Rattle.std.specs.Options.{valueOr}
-use Rattle.layout.specs.Layout.{node-at}
+use Rattle.layout.specs.Decoding.{node-at}
 use Rattle.layout.specs.Code.{no-node}
 use Rattle.layout.proofs.Decoded.{node-is}
 use Rattle.reading.proofs.bytes.Bytes.node.Needs as need

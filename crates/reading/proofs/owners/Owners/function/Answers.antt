@@ -4,7 +4,7 @@ use native.Mathlib.Omega.{arith}
 use lib.ListN.{length}
 use Rattle.std.proofs.shelf.Lists.{getD-default, getD-past}
 use Rattle.layout.specs.Code.{no-function}
-use Rattle.layout.specs.Layout.{functions-of}
+use Rattle.layout.specs.Decoding.{functions-of}
 use Rattle.layout.proofs.Decoded.{length-functions}
 use Rattle.reading.proofs.owners.Owners.function.Needs as need
 

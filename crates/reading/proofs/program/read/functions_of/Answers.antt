@@ -4,7 +4,7 @@ use native.Mathlib.Omega.{arith}
 use lib.ListN.{length}
 use Rattle.std.specs.Options.{valueOr}
 use Rattle.layout.specs.Code.{no-function}
-use Rattle.layout.specs.Layout.{function-at, functions-of}
+use Rattle.layout.specs.Decoding.{function-at, functions-of}
 use Rattle.layout.proofs.Decoded.{decoded-more, decoded-all}
 use Rattle.reading.proofs.program.read.functions_of.Needs as need
 

@@ -6,7 +6,7 @@ use Rattle.std.specs.Iters.{counting}
 use Rattle.std.specs.Options.{valueOr}
 use Rattle.std.specs.Of.Vec.{vec-items, vec-len, vec-cap}
 use Rattle.layout.specs.Code.{no-function}
-use Rattle.layout.specs.Layout.{function-at}
+use Rattle.layout.specs.Decoding.{function-at}
 use Rattle.reading.proofs.program.read.functions_of.Given as given
 
 abbrev pub Inv-loop-g : given.InvT-loop-g

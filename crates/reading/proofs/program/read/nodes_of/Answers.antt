@@ -4,7 +4,7 @@ use native.Mathlib.Omega.{arith}
 use lib.ListN.{length}
 use Rattle.std.specs.Options.{valueOr}
 use Rattle.layout.specs.Code.{no-node}
-use Rattle.layout.specs.Layout.{node-at, nodes-of}
+use Rattle.layout.specs.Decoding.{node-at, nodes-of}
 use Rattle.layout.proofs.Decoded.{decoded-more, decoded-all}
 use Rattle.reading.proofs.program.read.nodes_of.Needs as need
 

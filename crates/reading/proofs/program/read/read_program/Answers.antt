@@ -4,7 +4,7 @@ use Rattle.std.specs.Of.Vec.{vec-items}
 use Rattle.std.specs.declared.option.Option.the-variants.{None}
 use Rattle.layout.specs.Code.{Code, code}
 use Rattle.layout.specs.Encoding.{encoded}
-use Rattle.layout.specs.Layout.{decoded}
+use Rattle.layout.specs.Decoding.{decoded}
 use Rattle.reading.specs.Verdict.{refused}
 use Rattle.reading.specs.Sound.{FewNodes, FewFunctions, FewApps, SlotsFit, TypesWhole, Placed, SlotsThere, NamesFit, CallsFit, NamedOnce, InScope}
 use Rattle.reading.proofs.Seen.{few-nodes, few-functions, few-apps, slots-good, types-whole, placed-good, slots-there, names-fit, calls-fit, named-once, in-scope, code-is}
