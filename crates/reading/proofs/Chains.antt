@@ -6,11 +6,11 @@ use native.Mathlib.Omega.{arith}
 use Rattle.std.specs.Options.{isSome}
 use Rattle.std.specs.declared.option.Option.{Option}
 use Rattle.std.specs.declared.option.Option.the-variants.{Some, None}
-use Rattle.reading.specs.Code.{Code, node}
+use Rattle.layout.specs.Code.{Code, node}
 use Rattle.std.proofs.shelf.Tests.{false≢true}
-use Rattle.reading.specs.declared.node.Node.{Node}
-use Rattle.reading.specs.declared.node.Node.the-variants.{Expression as Exp, Command as Com, Argument}
-use Rattle.reading.specs.Tree.{following, next-of}
+use Rattle.layout.specs.declared.node.Node.{Node}
+use Rattle.layout.specs.declared.node.Node.the-variants.{Expression as Exp, Command as Com, Argument}
+use Rattle.layout.specs.Tree.{following, next-of}
 use Rattle.reading.specs.Chain.{Chain, over, more}
 use Rattle.reading.specs.CallRule.{goes-on, chained}
 

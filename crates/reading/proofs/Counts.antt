@@ -7,9 +7,9 @@ use native.Mathlib.Omega.{arith}
 use lib.Dec.{eqb}
 use Rattle.std.specs.declared.option.Option.{Option}
 use Rattle.std.specs.declared.option.Option.the-variants.{Some, None}
-use Rattle.reading.specs.declared.parts.Part.{Part}
-use Rattle.reading.specs.Code.{Code, node}
-use Rattle.reading.specs.Tree.{parts, target, hit, times, namings}
+use Rattle.layout.specs.declared.parts.Part.{Part}
+use Rattle.layout.specs.Code.{Code, node}
+use Rattle.layout.specs.Tree.{parts, target, hit, times, namings}
 
 bit-small : (b : Bool) → cond b 1 0 ≤ 1
 bit-small true = omega arith

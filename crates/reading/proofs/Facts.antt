@@ -9,15 +9,15 @@ use lib.ListN.{length}
 use Rattle.std.specs.declared.option.Option.{Option}
 use Rattle.std.specs.declared.option.Option.the-variants.{Some, None}
 use Rattle.std.proofs.shelf.Tests.{and-parts, and-from, or-cases, not-false, not-true, not-from-false, both-ways, ltb-true, lt-ltb, leb-true, leb-false, false≢true, eqb-false, cases-bool}
-use Rattle.reading.specs.declared.parts.Part.{Part}
-use Rattle.reading.specs.declared.parts.Part.the-variants.{Absent, Expression as OfExpression, Command as OfCommand, Argument as OfArgument}
-use Rattle.reading.specs.declared.node.Node.{Node}
-use Rattle.reading.specs.declared.node.Node.the-variants.{Expression as Exp, Command as Com, Argument}
-use Rattle.reading.specs.declared.node.Expression.{Expression}
-use Rattle.reading.specs.declared.node.Command.{Command}
-use Rattle.reading.specs.declared.node.Command.the-variants.{Call}
-use Rattle.reading.specs.Code.{Code, node, function, body, start, owner, is-expression, is-command, is-argument, as-expression, as-command}
-use Rattle.reading.specs.Tree.{parts, slot-of}
+use Rattle.layout.specs.declared.parts.Part.{Part}
+use Rattle.layout.specs.declared.parts.Part.the-variants.{Absent, Expression as OfExpression, Command as OfCommand, Argument as OfArgument}
+use Rattle.layout.specs.declared.node.Node.{Node}
+use Rattle.layout.specs.declared.node.Node.the-variants.{Expression as Exp, Command as Com, Argument}
+use Rattle.layout.specs.declared.node.Expression.{Expression}
+use Rattle.layout.specs.declared.node.Command.{Command}
+use Rattle.layout.specs.declared.node.Command.the-variants.{Call}
+use Rattle.layout.specs.Code.{Code, node, function, body, start, owner, is-expression, is-command, is-argument, as-expression, as-command}
+use Rattle.layout.specs.Tree.{parts, slot-of}
 use Rattle.reading.specs.CodeRule.{past, slot-broken}
 use Rattle.reading.specs.NamingRule.{lies, part-fits, all-fit, is-body, ends-well, naming-broken}
 use Rattle.reading.specs.CallRule.{chained, calls-well, call-broken}

@@ -10,7 +10,7 @@ use lib.Seq.{getD-set-same, getD-set-other}
 use Rattle.std.specs.declared.option.Option.{Option}
 use Rattle.std.specs.declared.option.Option.the-variants.{Some, None}
 use Rattle.std.proofs.shelf.Tests.{cases-eq}
-use Rattle.reading.specs.Code.{Code, node}
+use Rattle.layout.specs.Code.{Code, node}
 use Rattle.reading.specs.NamingRule.{naming-broken}
 use Rattle.reading.specs.ScopeRule.{parent, within, below-parent, scope}
 use Rattle.reading.proofs.Parents.{named-lower, parent-names, scope-below}

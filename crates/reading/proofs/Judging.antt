@@ -7,7 +7,7 @@ use Rattle.std.specs.declared.option.Option.{Option}
 use Rattle.std.specs.declared.option.Option.the-variants.{Some, None}
 use Rattle.levels.specs.Search.{lowest, or-else}
 use Rattle.levels.specs.declared.refusal.Refusal.{Refusal}
-use Rattle.reading.specs.Code.{Code}
+use Rattle.layout.specs.Code.{Code}
 use Rattle.reading.specs.RecordRule.{record-broken}
 use Rattle.reading.specs.CodeRule.{code-broken}
 use Rattle.reading.specs.NamingRule.{naming-broken}

@@ -3,7 +3,6 @@ pub mod Seen
 pub mod Judging
 pub mod Bodies
 pub mod Owning
-pub mod Decoded
 pub mod Lowests
 pub mod Counts
 pub mod Chains

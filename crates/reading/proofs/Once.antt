@@ -10,10 +10,10 @@ use Rattle.std.specs.Options.{valueOr}
 use Rattle.std.specs.declared.option.Option.{Option}
 use Rattle.std.specs.declared.option.Option.the-variants.{Some, None}
 use Rattle.std.proofs.shelf.Tests.{and-parts, and-from, not-false, not-from-false, both-ways, ltb-true, lt-ltb, le-leb, leb-true, eqb-true, ne-eqb, cases-eq, cases-lt, cases-order, cases-bool, cond-true, cond-false, false≢true}
-use Rattle.reading.specs.declared.parts.Part.{Part}
-use Rattle.reading.specs.declared.parts.Part.the-variants.{Absent, Expression as OfExpression, Command as OfCommand, Argument as OfArgument}
-use Rattle.reading.specs.Code.{Code, node, body, start, owner}
-use Rattle.reading.specs.Tree.{parts, target, hit, times, namings}
+use Rattle.layout.specs.declared.parts.Part.{Part}
+use Rattle.layout.specs.declared.parts.Part.the-variants.{Absent, Expression as OfExpression, Command as OfCommand, Argument as OfArgument}
+use Rattle.layout.specs.Code.{Code, node, body, start, owner}
+use Rattle.layout.specs.Tree.{parts, target, hit, times, namings}
 use Rattle.reading.specs.NamingRule.{naming-broken}
 use Rattle.reading.specs.Naming.{OnceBy, Namings-stand}
 use Rattle.reading.specs.OnceRule.{once-broken}

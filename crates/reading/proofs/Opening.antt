@@ -13,12 +13,12 @@ use Rattle.std.specs.declared.option.Option.{Option}
 use Rattle.std.specs.declared.option.Option.the-variants.{Some, None}
 use Rattle.std.proofs.shelf.Bits.{or-shr, or-mod}
 use Rattle.std.proofs.shelf.Tests.{and-parts, and-from, eqb-true, eqb-false, eq-eqb, ne-eqb, lt-ltb, ltb-true, ltb-false, cases-bool, cases-eq, cases-order, cond-true, cond-false, false≢true}
-use Rattle.reading.specs.declared.node.Command.{Command}
-use Rattle.reading.specs.declared.node.Command.the-variants.{Nothing, SetSlot, SetFigure, If, While, Then, Let, Call, Test}
-use Rattle.reading.specs.declared.node.Node.{Node}
-use Rattle.reading.specs.declared.node.Node.the-variants.{Expression as Exp, Command as Com, Argument}
-use Rattle.reading.specs.Code.{Code, node}
-use Rattle.reading.specs.Tree.{parts, times}
+use Rattle.layout.specs.declared.node.Command.{Command}
+use Rattle.layout.specs.declared.node.Command.the-variants.{Nothing, SetSlot, SetFigure, If, While, Then, Let, Call, Test}
+use Rattle.layout.specs.declared.node.Node.{Node}
+use Rattle.layout.specs.declared.node.Node.the-variants.{Expression as Exp, Command as Com, Argument}
+use Rattle.layout.specs.Code.{Code, node}
+use Rattle.layout.specs.Tree.{parts, times}
 use Rattle.reading.specs.ScopeRule.{parent, adding, holds, within-command, within, below-parent, scope}
 use Rattle.reading.specs.Opened.{Opened, here, under}
 use Rattle.reading.proofs.Parents.{parent-names, parent-step, parent-none, scope-below}

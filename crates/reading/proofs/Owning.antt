@@ -8,8 +8,8 @@ use lib.ListN.{length, getD, set, replicate, length-set}
 use lib.Seq.{getD-set-same, getD-set-other}
 use Rattle.std.proofs.shelf.Lists.{getD-replicate, length-replicate, getD-past}
 use Rattle.std.proofs.shelf.Tests.{cases-eq, cases-lt}
-use Rattle.reading.specs.declared.function.Function.{Function}
-use Rattle.reading.specs.Code.{Code, no-function, function, body, start, owner}
+use Rattle.layout.specs.declared.function.Function.{Function}
+use Rattle.layout.specs.Code.{Code, no-function, function, body, start, owner}
 use Rattle.reading.specs.Sound.{Placed}
 use Rattle.reading.proofs.Bodies.{place-is, start-next, owner-is, owner-past}
 

@@ -11,10 +11,10 @@ use Rattle.std.specs.declared.option.Option.{Option}
 use Rattle.std.specs.declared.option.Option.the-variants.{Some, None}
 use Rattle.std.proofs.shelf.Tests.{and-parts, not-false, ltb-true, eqb-true, cases-bool, cond-true, cond-false, cases-lt}
 use Rattle.std.proofs.shelf.Ways.{tells}
-use Rattle.reading.specs.declared.parts.Part.{Part}
-use Rattle.reading.specs.declared.parts.Part.the-variants.{Absent, Expression as OfExpression, Command as OfCommand, Argument as OfArgument}
-use Rattle.reading.specs.Code.{Code, node, start, owner, is-expression, is-command, is-argument}
-use Rattle.reading.specs.Tree.{parts, target, hit, times}
+use Rattle.layout.specs.declared.parts.Part.{Part}
+use Rattle.layout.specs.declared.parts.Part.the-variants.{Absent, Expression as OfExpression, Command as OfCommand, Argument as OfArgument}
+use Rattle.layout.specs.Code.{Code, node, start, owner, is-expression, is-command, is-argument}
+use Rattle.layout.specs.Tree.{parts, target, hit, times}
 use Rattle.reading.specs.NamingRule.{lies, part-fits, all-fit, ends-well, naming-broken}
 use Rattle.reading.specs.ScopeRule.{parent, within, below-parent, scope}
 

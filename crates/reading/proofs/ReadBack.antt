@@ -15,19 +15,19 @@ use Rattle.std.proofs.shelf.Counted.{fill-by-all}
 use Rattle.std.proofs.shelf.Lists.{getD-drop, drop-drop, take-at}
 use Rattle.std.proofs.shelf.Tests.{and-from, or-from, not-false, not-from-true, le-leb, eq-eqb, ne-eqb, cond-true, cond-false}
 use Rattle.levels.specs.Search.{when}
-use Rattle.reading.specs.declared.node.Operator.{Operator}
-use Rattle.reading.specs.declared.node.Operator.the-variants.{Add, Subtract, Multiply, Divide, Less, Equal}
-use Rattle.reading.specs.declared.node.Expression.{Expression}
-use Rattle.reading.specs.declared.node.Expression.the-variants.{Constant, Slot, Figure, Operation}
-use Rattle.reading.specs.declared.node.Command.{Command}
-use Rattle.reading.specs.declared.node.Command.the-variants.{Nothing, SetSlot, SetFigure, If, While, Then, Let, Call, Test}
-use Rattle.reading.specs.declared.node.Node.{Node}
-use Rattle.reading.specs.declared.node.Node.the-variants.{Expression as Exp, Command as Com, Argument}
-use Rattle.reading.specs.declared.function.Function.{Function}
-use Rattle.reading.specs.Code.{Code, code, node, function, owner, start, no-node, no-function}
-use Rattle.reading.specs.Tree.{parts, next-part}
-use Rattle.reading.specs.Layout.{byte, word, linked, node-of, has, node-at, record-at, padded, slots-fit, function-at, nodes-of, functions-of, decoded}
-use Rattle.reading.specs.Encoding.{link, operands, eight, node-bytes, function-head, function-bytes, encoded}
+use Rattle.layout.specs.declared.node.Operator.{Operator}
+use Rattle.layout.specs.declared.node.Operator.the-variants.{Add, Subtract, Multiply, Divide, Less, Equal}
+use Rattle.layout.specs.declared.node.Expression.{Expression}
+use Rattle.layout.specs.declared.node.Expression.the-variants.{Constant, Slot, Figure, Operation}
+use Rattle.layout.specs.declared.node.Command.{Command}
+use Rattle.layout.specs.declared.node.Command.the-variants.{Nothing, SetSlot, SetFigure, If, While, Then, Let, Call, Test}
+use Rattle.layout.specs.declared.node.Node.{Node}
+use Rattle.layout.specs.declared.node.Node.the-variants.{Expression as Exp, Command as Com, Argument}
+use Rattle.layout.specs.declared.function.Function.{Function}
+use Rattle.layout.specs.Code.{Code, code, node, function, owner, start, no-node, no-function}
+use Rattle.layout.specs.Tree.{parts, next-part}
+use Rattle.layout.specs.Decoding.{byte, word, linked, node-of, has, node-at, record-at, padded, slots-fit, function-at, nodes-of, functions-of, decoded}
+use Rattle.layout.specs.Encoding.{link, operands, eight, node-bytes, function-head, function-bytes, encoded}
 use Rattle.reading.specs.SizeRule.{counts, sizes-fit}
 use Rattle.reading.specs.RecordRule.{placed, record-broken}
 use Rattle.reading.specs.CodeRule.{slot-broken, code-broken}

@@ -16,10 +16,10 @@ use Rattle.levels.specs.Search.{lowest, when}
 use Rattle.levels.specs.declared.refusal.Refusal.{Refusal}
 use Rattle.levels.specs.declared.refusal.Place.the-variants.{Whole}
 use Rattle.levels.specs.Refusals.{broken}
-use Rattle.reading.specs.declared.function.Function.{Function}
-use Rattle.reading.specs.declared.node.Node.{Node}
-use Rattle.reading.specs.Code.{Code, code, function, no-function}
-use Rattle.reading.specs.Layout.{has, padded, slots-fit, record-at, node-at, function-at, nodes-of, functions-of, decoded}
+use Rattle.layout.specs.declared.function.Function.{Function}
+use Rattle.layout.specs.declared.node.Node.{Node}
+use Rattle.layout.specs.Code.{Code, code, function, no-function}
+use Rattle.layout.specs.Decoding.{has, padded, slots-fit, record-at, node-at, function-at, nodes-of, functions-of, decoded}
 use Rattle.reading.specs.SizeRule.{counts, sizes-fit}
 use Rattle.reading.specs.RecordRule.{placed, record-broken}
 use Rattle.reading.specs.CodeRule.{slot-broken, code-broken}
@@ -31,7 +31,7 @@ use Rattle.reading.specs.Verdict.{judged, refused}
 use Rattle.reading.specs.Sound.{FewNodes, FewFunctions, FewApps, SlotsFit, TypesWhole, Placed, SlotsThere, NamesFit, CallsFit, NamedOnce, InScope}
 use Rattle.reading.proofs.Lowests.{lowest-all}
 use Rattle.reading.proofs.Bodies.{placed-from}
-use Rattle.reading.proofs.Decoded.{length-nodes, length-functions, function-is}
+use Rattle.layout.proofs.Decoded.{length-nodes, length-functions, function-is}
 use Rattle.reading.proofs.Judging.{of-searches, judged-is}
 
 none-found : (o₁ o₂ o₃ o₄ o₅ o₆ : Option ℕ) → of-searches o₁ o₂ o₃ o₄ o₅ o₆ ≡ None → (o₁ ≡ None) × (o₂ ≡ None) × (o₃ ≡ None) × (o₄ ≡ None) × (o₅ ≡ None) × (o₆ ≡ None)

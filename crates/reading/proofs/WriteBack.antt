@@ -19,22 +19,22 @@ use Rattle.std.proofs.shelf.Lists.{drop-drop, take-all}
 use Rattle.std.proofs.shelf.Tests.{and-parts, eqb-true, leb-true, le-leb, cases-bool, cond-true, cond-false, false≢true}
 use Rattle.levels.specs.Search.{when, or-else}
 use Rattle.levels.specs.declared.refusal.Refusal.{Refusal}
-use Rattle.reading.specs.declared.node.Operator.{Operator}
-use Rattle.reading.specs.declared.node.Operator.the-variants.{Add, Subtract, Multiply, Divide, Less, Equal}
-use Rattle.reading.specs.declared.node.Expression.{Expression}
-use Rattle.reading.specs.declared.node.Expression.the-variants.{Constant, Slot, Figure, Operation}
-use Rattle.reading.specs.declared.node.Command.{Command}
-use Rattle.reading.specs.declared.node.Command.the-variants.{Nothing, SetSlot, SetFigure, If, While, Then, Let, Call, Test}
-use Rattle.reading.specs.declared.node.Node.{Node}
-use Rattle.reading.specs.declared.node.Node.the-variants.{Expression as Exp, Command as Com, Argument}
-use Rattle.reading.specs.declared.function.Function.{Function}
-use Rattle.reading.specs.Code.{Code, no-node, no-function}
-use Rattle.reading.specs.Layout.{byte, word, linked, operator-of, operation-of, expression-of, command-of, argument-of, node-of, has, node-at, record-at, padded, slots-fit, function-at, nodes-of, functions-of, decoded}
-use Rattle.reading.specs.Encoding.{link, operator-code, expression-operands, command-operands, operands, eight, node-bytes, function-head, function-bytes, Lists, lists, encoded}
+use Rattle.layout.specs.declared.node.Operator.{Operator}
+use Rattle.layout.specs.declared.node.Operator.the-variants.{Add, Subtract, Multiply, Divide, Less, Equal}
+use Rattle.layout.specs.declared.node.Expression.{Expression}
+use Rattle.layout.specs.declared.node.Expression.the-variants.{Constant, Slot, Figure, Operation}
+use Rattle.layout.specs.declared.node.Command.{Command}
+use Rattle.layout.specs.declared.node.Command.the-variants.{Nothing, SetSlot, SetFigure, If, While, Then, Let, Call, Test}
+use Rattle.layout.specs.declared.node.Node.{Node}
+use Rattle.layout.specs.declared.node.Node.the-variants.{Expression as Exp, Command as Com, Argument}
+use Rattle.layout.specs.declared.function.Function.{Function}
+use Rattle.layout.specs.Code.{Code, no-node, no-function}
+use Rattle.layout.specs.Decoding.{byte, word, linked, operator-of, operation-of, expression-of, command-of, argument-of, node-of, has, node-at, record-at, padded, slots-fit, function-at, nodes-of, functions-of, decoded}
+use Rattle.layout.specs.Encoding.{link, operator-code, expression-operands, command-operands, operands, eight, node-bytes, function-head, function-bytes, Lists, lists, encoded}
 use Rattle.reading.specs.Verdict.{refused, unless, verdict}
 use Rattle.reading.specs.Copies.{Bytes}
 use Rattle.reading.proofs.Blocks.{joined-blocks, block-is}
-use Rattle.reading.proofs.Decoded.{length-nodes, length-functions}
+use Rattle.layout.proofs.Decoded.{length-nodes, length-functions}
 use Rattle.reading.proofs.Seen.{node-sizes, function-sizes, layout-good, function-as, codes-good}
 
 abbrev Five : Type 0

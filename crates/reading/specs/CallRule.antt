@@ -5,12 +5,12 @@ use lib.Dec.{ltb}
 use Rattle.std.specs.Options.{isSome}
 use Rattle.std.specs.declared.option.Option.{Option}
 use Rattle.std.specs.declared.option.Option.the-variants.{Some, None}
-use Rattle.reading.specs.declared.node.Command.{Command}
-use Rattle.reading.specs.declared.node.Command.the-variants.{Nothing, SetSlot, SetFigure, If, While, Then, Let, Call, Test}
-use Rattle.reading.specs.declared.node.Node.{Node}
-use Rattle.reading.specs.declared.node.Node.the-variants.{Expression as Exp, Command as Com, Argument}
-use Rattle.reading.specs.Code.{Code, node, function, owner}
-use Rattle.reading.specs.Tree.{next-of}
+use Rattle.layout.specs.declared.node.Command.{Command}
+use Rattle.layout.specs.declared.node.Command.the-variants.{Nothing, SetSlot, SetFigure, If, While, Then, Let, Call, Test}
+use Rattle.layout.specs.declared.node.Node.{Node}
+use Rattle.layout.specs.declared.node.Node.the-variants.{Expression as Exp, Command as Com, Argument}
+use Rattle.layout.specs.Code.{Code, node, function, owner}
+use Rattle.layout.specs.Tree.{next-of}
 
 abbrev pub goes-on : Option (Option ℕ) → (Option ℕ → Bool) → Bool
 goes-on None f = false

@@ -4,8 +4,8 @@ use mathlib.Core.Bool.{true}
 use Prim.Native.Nat.{ℕ, suc}
 use Rattle.std.specs.declared.option.Option.{Option}
 use Rattle.std.specs.declared.option.Option.the-variants.{Some, None}
-use Rattle.reading.specs.declared.node.Node.the-variants.{Argument}
-use Rattle.reading.specs.Code.{Code, node}
+use Rattle.layout.specs.declared.node.Node.the-variants.{Argument}
+use Rattle.layout.specs.Code.{Code, node}
 use Rattle.reading.specs.CallRule.{chained}
 
 pub data Chain (c : Code) : ℕ → Option ℕ → Type 0 where

@@ -6,9 +6,9 @@ use lib.Dec.{leb}
 use Rattle.std.specs.Options.{isSome}
 use Rattle.std.specs.declared.option.Option.{Option}
 use Rattle.std.specs.declared.option.Option.the-variants.{Some, None}
-use Rattle.reading.specs.Code.{Code, node, function, owner}
-use Rattle.reading.specs.Tree.{slot-of}
-use Rattle.reading.specs.Layout.{node-at}
+use Rattle.layout.specs.Code.{Code, node, function, owner}
+use Rattle.layout.specs.Tree.{slot-of}
+use Rattle.layout.specs.Decoding.{node-at}
 
 -- a slot that a function of m slots has not
 abbrev pub past : ℕ → Option ℕ → Bool

@@ -4,8 +4,8 @@ use mathlib.Core.List.{List}
 use Prim.Native.Nat.{ℕ, _<_}
 use lib.ListN.{length, getD}
 use Rattle.std.specs.declared.result.Result.the-variants.{Ok}
-use Rattle.reading.specs.Code.{Code}
-use Rattle.reading.specs.Encoding.{Lists, lists, encoded}
+use Rattle.layout.specs.Code.{Code}
+use Rattle.layout.specs.Encoding.{Lists, lists, encoded}
 use Rattle.reading.specs.Sound.{Sound}
 use Rattle.reading.specs.Verdict.{verdict}
 

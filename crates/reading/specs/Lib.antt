@@ -1,6 +1,3 @@
-pub mod Code
-pub mod Tree
-pub mod Layout
 pub mod SizeRule
 pub mod RecordRule
 pub mod CodeRule
@@ -8,7 +5,6 @@ pub mod NamingRule
 pub mod CallRule
 pub mod OnceRule
 pub mod ScopeRule
-pub mod Encoding
 pub mod Verdict
 pub mod ReadingRefusal
 pub mod Sound

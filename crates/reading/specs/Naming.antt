@@ -2,8 +2,8 @@
 use mathlib.Core.Path.{_≡_}
 use Prim.Native.Nat.{ℕ, _<_}
 use lib.ListN.{length}
-use Rattle.reading.specs.Code.{Code, node}
-use Rattle.reading.specs.Tree.{parts, times, namings}
+use Rattle.layout.specs.Code.{Code, node}
+use Rattle.layout.specs.Tree.{parts, times, namings}
 
 pub record OnceBy (c : Code) (j i : ℕ) : Type 0 where
   pub there : i < length (c .nodes)

@@ -2,10 +2,10 @@
 use mathlib.Core.Bool.{Bool, true, not, _&&_, _||_}
 use Prim.Native.Nat.{ℕ}
 use lib.Dec.{eqb, ltb, leb}
-use Rattle.reading.specs.declared.parts.Part.{Part}
-use Rattle.reading.specs.declared.parts.Part.the-variants.{Absent, Expression as OfExpression, Command as OfCommand, Argument as OfArgument}
-use Rattle.reading.specs.Code.{Code, node, body, start, owner, is-expression, is-command, is-argument}
-use Rattle.reading.specs.Tree.{parts}
+use Rattle.layout.specs.declared.parts.Part.{Part}
+use Rattle.layout.specs.declared.parts.Part.the-variants.{Absent, Expression as OfExpression, Command as OfCommand, Argument as OfArgument}
+use Rattle.layout.specs.Code.{Code, node, body, start, owner, is-expression, is-command, is-argument}
+use Rattle.layout.specs.Tree.{parts}
 
 -- node b lies below node i of a function that begins at low
 abbrev pub lies : ℕ → ℕ → ℕ → Bool

@@ -3,8 +3,8 @@ use mathlib.Core.Bool.{Bool, not, _&&_}
 use Prim.Native.Nat.{ℕ}
 use lib.Dec.{eqb, ltb}
 use lib.ListN.{length}
-use Rattle.reading.specs.Code.{Code}
-use Rattle.reading.specs.Tree.{namings}
+use Rattle.layout.specs.Code.{Code}
+use Rattle.layout.specs.Tree.{namings}
 use Rattle.reading.specs.NamingRule.{is-body}
 
 -- node j is there, is no body, and is not named exactly once

@@ -3,10 +3,10 @@ use mathlib.Core.Path.{_≡_}
 use mathlib.Core.Bool.{true}
 use Prim.Native.Nat.{ℕ, _<_}
 use lib.ListN.{length}
-use Rattle.reading.specs.declared.node.Command.the-variants.{Let}
-use Rattle.reading.specs.declared.node.Node.the-variants.{Command as Com}
-use Rattle.reading.specs.Code.{Code, node}
-use Rattle.reading.specs.Tree.{parts, times}
+use Rattle.layout.specs.declared.node.Command.the-variants.{Let}
+use Rattle.layout.specs.declared.node.Node.the-variants.{Command as Com}
+use Rattle.layout.specs.Code.{Code, node}
+use Rattle.layout.specs.Tree.{parts, times}
 use Rattle.reading.specs.ScopeRule.{holds, scope}
 use Rattle.reading.specs.Sound.{FewFunctions, Placed, NamesFit, NamedOnce}
 

@@ -7,8 +7,8 @@ use Rattle.reading.specs.declared.fault.ReadingFault.{ReadingFault}
 use Rattle.reading.specs.declared.fault.ReadingFault.the-variants.{Sizes, Record, Malformed, Misnamed, Miscalled, NotNamedOnce, OutOfScope, Memory}
 use Rattle.reading.specs.declared.program.Program.{Program}
 use Rattle.reading.specs.declared.program.Written.{Written}
-use Rattle.reading.specs.Code.{Code, code}
-use Rattle.reading.specs.Encoding.{Lists, lists}
+use Rattle.layout.specs.Code.{Code, code}
+use Rattle.layout.specs.Encoding.{Lists, lists}
 
 abbrev pub program-code : Program → Code
 program-code p = code (vec-items (p .nodes)) (vec-items (p .functions)) (vec-items (p .apps))

@@ -5,8 +5,8 @@ use Prim.Native.Nat.{ℕ, _+_}
 use lib.Dec.{eqb, ltb, leb}
 use lib.ListN.{length}
 use Rattle.std.specs.Options.{isSome}
-use Rattle.reading.specs.Code.{Code, function, body, start}
-use Rattle.reading.specs.Layout.{function-at}
+use Rattle.layout.specs.Code.{Code, function, body, start}
+use Rattle.layout.specs.Decoding.{function-at}
 
 abbrev pub last-function : Code → ℕ → Bool
 last-function c g = eqb (g + 1) (length (c .functions))

@@ -6,14 +6,14 @@ use lib.Bits.{bitOr}
 use lib.ListN.{length}
 use Rattle.std.specs.declared.option.Option.{Option}
 use Rattle.std.specs.declared.option.Option.the-variants.{Some, None}
-use Rattle.reading.specs.declared.node.Expression.{Expression}
-use Rattle.reading.specs.declared.node.Expression.the-variants.{Constant, Slot, Figure, Operation}
-use Rattle.reading.specs.declared.node.Command.{Command}
-use Rattle.reading.specs.declared.node.Command.the-variants.{Nothing, SetSlot, SetFigure, If, While, Then, Let, Call, Test}
-use Rattle.reading.specs.declared.node.Node.{Node}
-use Rattle.reading.specs.declared.node.Node.the-variants.{Expression as Exp, Command as Com, Argument}
-use Rattle.reading.specs.Code.{Code, node, function, owner}
-use Rattle.reading.specs.Tree.{parts, times}
+use Rattle.layout.specs.declared.node.Expression.{Expression}
+use Rattle.layout.specs.declared.node.Expression.the-variants.{Constant, Slot, Figure, Operation}
+use Rattle.layout.specs.declared.node.Command.{Command}
+use Rattle.layout.specs.declared.node.Command.the-variants.{Nothing, SetSlot, SetFigure, If, While, Then, Let, Call, Test}
+use Rattle.layout.specs.declared.node.Node.{Node}
+use Rattle.layout.specs.declared.node.Node.the-variants.{Expression as Exp, Command as Com, Argument}
+use Rattle.layout.specs.Code.{Code, node, function, owner}
+use Rattle.layout.specs.Tree.{parts, times}
 
 -- the highest node below i that names node j; rule 9 has seen to it that no other does
 unfoldable pub parent : Code → ℕ → ℕ → Option ℕ

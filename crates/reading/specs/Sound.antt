@@ -3,8 +3,8 @@ use mathlib.Core.Path.{_≡_}
 use mathlib.Core.Bool.{Bool, false, not, _&&_}
 use Prim.Native.Nat.{ℕ, _<_, _≤_}
 use lib.ListN.{length}
-use Rattle.reading.specs.Code.{Code, function}
-use Rattle.reading.specs.Layout.{slots-fit}
+use Rattle.layout.specs.Code.{Code, function}
+use Rattle.layout.specs.Decoding.{slots-fit}
 use Rattle.reading.specs.RecordRule.{placed}
 use Rattle.reading.specs.CodeRule.{slot-broken}
 use Rattle.reading.specs.NamingRule.{naming-broken}

@@ -12,8 +12,8 @@ use Rattle.levels.specs.Search.{lowest, or-else}
 use Rattle.levels.specs.Refusals.{broken}
 use Rattle.levels.specs.declared.refusal.Refusal.{Refusal}
 use Rattle.levels.specs.declared.refusal.Place.the-variants.{Whole, Node, Function}
-use Rattle.reading.specs.Code.{Code}
-use Rattle.reading.specs.Layout.{decoded}
+use Rattle.layout.specs.Code.{Code}
+use Rattle.layout.specs.Decoding.{decoded}
 use Rattle.reading.specs.SizeRule.{sizes-fit}
 use Rattle.reading.specs.RecordRule.{record-broken}
 use Rattle.reading.specs.CodeRule.{code-broken}

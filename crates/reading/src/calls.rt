@@ -4,12 +4,12 @@ ghost use mathlib.Core.Path.{_≡_};
 ghost use lib.ListN.{length};
 ghost use Rattle.levels.specs.Search.{lowest};
 ghost use Rattle.reading.specs.Meaning.{code-of};
-ghost use Rattle.reading.specs.Tree.{next-of};
+ghost use Rattle.layout.specs.Tree.{next-of};
 ghost use Rattle.reading.specs.CallRule.{chained, calls-well, call-broken};
 use crate::bytes::Bytes;
-use crate::node::Command;
-use crate::node::Node;
 use crate::owners::Owners;
+use layout::node::Command;
+use layout::node::Node;
 use levels::search::Test;
 use levels::search::lowest;
 

@@ -5,8 +5,8 @@ ghost use lib.ListN.{length};
 ghost use Rattle.levels.specs.Search.{lowest};
 ghost use Rattle.reading.specs.Meaning.{code-of};
 ghost use Rattle.reading.specs.CodeRule.{past, slot-broken, code-broken};
-use crate::decode;
 use crate::owners::Owners;
+use layout::decode;
 use levels::search::Test;
 use levels::search::lowest;
 

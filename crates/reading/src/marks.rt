@@ -4,7 +4,7 @@ ghost use mathlib.Core.Path.{_≡_};
 ghost use Prim.Native.Nat.{ℕ, _+_, _<_};
 ghost use lib.ListN.{length, getD};
 ghost use Rattle.levels.specs.Search.{lowest};
-ghost use Rattle.reading.specs.Tree.{hit, namings};
+ghost use Rattle.layout.specs.Tree.{hit, namings};
 ghost use Rattle.reading.specs.Meaning.{code-of};
 ghost use Rattle.reading.specs.OnceRule.{once-broken};
 use crate::bytes::Bytes;

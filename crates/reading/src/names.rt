@@ -7,7 +7,7 @@ ghost use Rattle.reading.specs.Meaning.{code-of};
 ghost use Rattle.reading.specs.NamingRule.{lies, part-fits, all-fit, is-body, ends-well, naming-broken};
 use crate::bytes::Bytes;
 use crate::owners::Owners;
-use crate::parts::Part;
+use layout::parts::Part;
 use levels::search::Test;
 use levels::search::lowest;
 

@@ -4,13 +4,13 @@ ghost use mathlib.Core.Bool.{false};
 ghost use mathlib.Core.Path.{_≡_};
 ghost use Prim.Native.Nat.{ℕ, _<_};
 ghost use lib.ListN.{length, getD};
-ghost use Rattle.reading.specs.Code.{no-function, function, body, start, owner};
+ghost use Rattle.layout.specs.Code.{no-function, function, body, start, owner};
 ghost use Rattle.reading.specs.Meaning.{code-of};
 ghost use Rattle.reading.specs.RecordRule.{record-broken};
 use crate::bytes::Bytes;
-use crate::decode;
-use crate::function::Function;
 use crate::view::no_function;
+use layout::decode;
+use layout::function::Function;
 
 // Bytes whose function records are good.
 #[derive(Drop)]

@@ -1,10 +1,10 @@
 //! A program that was read.
 ghost use Rattle.std.specs.Of.Vec.{vec-items};
-ghost use Rattle.reading.specs.Code.{code};
+ghost use Rattle.layout.specs.Code.{code};
 ghost use Rattle.reading.specs.Sound.{FewNodes, FewFunctions, FewApps, SlotsFit, TypesWhole, Placed};
 ghost use Rattle.reading.specs.Sound.{SlotsThere, NamesFit, CallsFit, NamedOnce, InScope};
-use crate::function::Function;
-use crate::node::Node;
+use layout::function::Function;
+use layout::node::Node;
 
 pub mod access;
 pub mod read;

@@ -6,7 +6,7 @@ ghost use Rattle.levels.specs.Search.{lowest};
 ghost use Rattle.reading.specs.Meaning.{code-of};
 ghost use Rattle.reading.specs.RecordRule.{last-function, placed, record-broken};
 use crate::bytes::Bytes;
-use crate::decode;
+use layout::decode;
 use levels::search::Test;
 use levels::search::lowest;
 

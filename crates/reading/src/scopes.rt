@@ -7,16 +7,16 @@ ghost use lib.Dec.{ltb};
 ghost use lib.ListN.{length, getD};
 ghost use Rattle.std.specs.declared.option.Option.the-variants.{Some, None};
 ghost use Rattle.levels.specs.Search.{lowest};
-ghost use Rattle.reading.specs.Tree.{hit};
+ghost use Rattle.layout.specs.Tree.{hit};
 ghost use Rattle.reading.specs.Meaning.{code-of};
 ghost use Rattle.reading.specs.NamingRule.{naming-broken};
 ghost use Rattle.reading.specs.ScopeRule.{parent, adding, holds, within-command, within, scope, usable};
 ghost use Rattle.reading.specs.ScopeRule.{expression-scoped, command-scoped, scoped, scope-broken};
 use crate::bytes::Bytes;
-use crate::node::Command;
-use crate::node::Expression;
-use crate::node::Node;
 use crate::owners::Owners;
+use layout::node::Command;
+use layout::node::Expression;
+use layout::node::Node;
 use levels::search::Test;
 use levels::search::lowest;
 
@@ -32,15 +32,13 @@ fn holds(set: u16, a: u8) -> bool
     a < 16 && (set >> a) % 2 == 1
 }
 
-impl Node {
-    // What is usable in the part j of a node where the set is usable.
-    fn within(self, j: u16, set: u16) -> u16
-        ensures { λ r. ⌜ r ≡ within self j set ⌝ }
-    {
-        match self {
-            Node::Command(Command::Let { slot, part, .. }) if part == j => adding(slot, set),
-            _ => set,
-        }
+// What is usable in the part j of a node where the set is usable.
+fn within(node: Node, j: u16, set: u16) -> u16
+    ensures { λ r. ⌜ r ≡ within node j set ⌝ }
+{
+    match node {
+        Node::Command(Command::Let { slot, part, .. }) if part == j => adding(slot, set),
+        _ => set,
     }
 }
 
@@ -79,7 +77,7 @@ impl<'a> Bytes<'a> {
         let mut scopes = [0; 4096];
         for j in (0..self.node_count()).rev() {
             if let Some(p) = parents[j as usize] {
-                scopes[j as usize] = self.node(p).within(j, scopes[p as usize]);
+                scopes[j as usize] = within(self.node(p), j, scopes[p as usize]);
             }
         }
         scopes

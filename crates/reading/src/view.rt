@@ -3,13 +3,13 @@ ghost use mathlib.Core.Path.{_≡_};
 ghost use lib.ListN.{length};
 ghost use denote.Ref.{now};
 ghost use Prim.Native.Nat.{_≤_};
-ghost use Rattle.reading.specs.Code.{no-node, no-function, node, function, body, start};
+ghost use Rattle.layout.specs.Code.{no-node, no-function, node, function, body, start};
 ghost use Rattle.reading.specs.Meaning.{code-of};
 use crate::bytes::Bytes;
-use crate::decode;
-use crate::function::Function;
-use crate::node::Command;
-use crate::node::Node;
+use layout::decode;
+use layout::function::Function;
+use layout::node::Command;
+use layout::node::Node;
 
 // What stands where no node is.
 pub fn no_node() -> Node

@@ -1,6 +1,7 @@
 //! Reads cases from standard input, one to a line, and prints what reading answers of each.
-//! A case is `NAME: NODES / FUNCTIONS / APPS`, lists of groups of hexadecimal digits. `GROUP*N` stands for a group N times,
-//! and `GROUP*N+STEP` adds the step to the group each time, as one large number.
+//! A case is `NAME: NODES / FUNCTIONS / APPS`, lists of groups of hexadecimal digits. In a group a dot stands for zeros up to
+//! the next multiple of eight bytes. `GROUP*N` is a group N times, and `GROUP*N+STEP` adds the step to it each time, as one
+//! large number.
 ghost use lib.ListN.{length};
 ghost use Prim.Native.Nat.{_<_};
 ghost use Rattle.std.specs.Options.{Cases as BySome};
@@ -32,19 +33,25 @@ fn digit(c: u8) -> Option<u8>
     }
 }
 
-// The bytes that pairs of hexadecimal digits stand for.
+// Zeros up to the next multiple of eight bytes.
+fn fill(list: &mut Vec<u8>) -> Result<(), AllocError> {
+    for _ in list.len() % 8..8 {
+        list.push(0)?;
+    }
+    Ok(())
+}
+
+// The bytes that pairs of hexadecimal digits and dots stand for.
 fn group(heap: Global, text: &str) -> Result<Vec<u8>, AnyError> {
     let mut list = Vec::new(heap);
     let mut high = None;
     for c in text.bytes() {
-        let low = match digit(c) {
-            None => return Err("no hexadecimal digit".into()),
-            Some(d) => d,
-        };
-        match high {
-            None => high = Some(low),
-            Some(d) => {
-                list.push(d << 4 | low)?;
+        match (digit(c), high) {
+            (None, _) if c == b'.' => fill(&mut list)?,
+            (None, _) => return Err("no hexadecimal digit".into()),
+            (Some(d), None) => high = Some(d),
+            (Some(d), Some(h)) => {
+                list.push(h << 4 | d)?;
                 high = None;
             }
         }

@@ -2,17 +2,17 @@
 ghost use denote.Ref.{now};
 ghost use mathlib.Core.Path.{_≡_};
 ghost use lib.ListN.{length};
-ghost use Rattle.reading.specs.Code.{node, function, as-expression, as-command, expression, command};
-ghost use Rattle.reading.specs.Layout.{byte};
+ghost use Rattle.layout.specs.Code.{node, function, as-expression, as-command, expression, command};
+ghost use Rattle.layout.specs.Decoding.{byte};
 ghost use Rattle.reading.specs.Reading.{program-code};
-use crate::decode;
-use crate::function::Function;
-use crate::node::Command;
-use crate::node::Expression;
-use crate::node::Node;
 use crate::program::Program;
 use crate::view::no_function;
 use crate::view::no_node;
+use layout::decode;
+use layout::function::Function;
+use layout::node::Command;
+use layout::node::Expression;
+use layout::node::Node;
 
 impl Program {
     pub fn node_count(&self) -> u16

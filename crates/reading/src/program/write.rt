@@ -5,11 +5,11 @@ ghost use Rattle.std.specs.Of.Vec.{vec-items};
 ghost use Rattle.std.specs.Vec.{made};
 ghost use Rattle.std.specs.shelf.Lists.{joined};
 ghost use Rattle.reading.specs.Copies.{Reads-back};
-ghost use Rattle.reading.specs.Encoding.{node-bytes, function-bytes, lists, encoded};
+ghost use Rattle.layout.specs.Encoding.{node-bytes, function-bytes, lists, encoded};
 ghost use Rattle.reading.specs.Reading.{program-code, written-lists};
-use crate::encode;
 use crate::program::Program;
 use crate::program::Written;
+use layout::encode;
 use std::alloc::AllocError;
 use std::alloc::Global;
 

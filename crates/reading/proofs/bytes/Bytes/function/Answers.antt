@@ -1,8 +1,8 @@
 use mathlib.Core.Path.{sym, ap, _∙_}
 use Rattle.std.specs.Options.{valueOr}
-use Rattle.reading.specs.Layout.{function-at}
-use Rattle.reading.specs.Code.{no-function}
-use Rattle.reading.proofs.Decoded.{function-is}
+use Rattle.layout.specs.Decoding.{function-at}
+use Rattle.layout.specs.Code.{no-function}
+use Rattle.layout.proofs.Decoded.{function-is}
 use Rattle.reading.proofs.bytes.Bytes.function.Needs as need
 
 pub returns : need.returns

@@ -1,6 +1,6 @@
 use mathlib.Core.Path.{sym}
 use native.Mathlib.Omega.{arith}
-use Rattle.reading.proofs.Decoded.{length-functions}
+use Rattle.layout.proofs.Decoded.{length-functions}
 use Rattle.reading.proofs.bytes.Bytes.function_count.Needs as need
 
 pub returns : need.returns

@@ -3,7 +3,7 @@ use native.Mathlib.Omega.{arith}
 use Rattle.reading.specs.declared.bytes.Bytes.{Bytes}
 use Rattle.reading.specs.Meaning.{code-of}
 use Rattle.reading.specs.Verdict.{judged-nodes}
-use Rattle.reading.proofs.Decoded.{length-functions}
+use Rattle.layout.proofs.Decoded.{length-functions}
 use Rattle.reading.proofs.Lowests.{lowest-is, lowest-all}
 use Rattle.reading.proofs.Judging.{judged-some, judged-none}
 use Rattle.reading.proofs.bytes.Bytes.judge.Needs as need

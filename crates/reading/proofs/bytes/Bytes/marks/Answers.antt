@@ -2,8 +2,8 @@ use mathlib.Core.Path.{_≡_, sym, ap, _∙_}
 use native.Mathlib.Omega.{arith}
 use borrow.Author.Needs.{needs}
 use Rattle.std.proofs.shelf.Lists.{getD-replicate}
-use Rattle.reading.specs.Code.{node}
-use Rattle.reading.specs.Tree.{parts, namings}
+use Rattle.layout.specs.Code.{node}
+use Rattle.layout.specs.Tree.{parts, namings}
 use Rattle.reading.specs.Meaning.{code-of}
 use Rattle.reading.proofs.Counts.{namings-none, namings-small, namings-more, hit-small}
 use Rattle.reading.proofs.bytes.Bytes.marks.Needs as need

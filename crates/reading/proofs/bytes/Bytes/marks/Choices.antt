@@ -1,7 +1,7 @@
 use mathlib.Core.Path.{_≡_}
 use Prim.Native.Nat.{ℕ, _<_}
 use lib.ListN.{getD}
-use Rattle.reading.specs.Tree.{namings}
+use Rattle.layout.specs.Tree.{namings}
 use Rattle.reading.specs.Meaning.{code-of}
 use Rattle.reading.proofs.bytes.Bytes.marks.Given as given
 

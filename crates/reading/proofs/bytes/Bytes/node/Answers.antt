@@ -1,8 +1,8 @@
 use mathlib.Core.Path.{sym, ap, _∙_}
 use Rattle.std.specs.Options.{valueOr}
-use Rattle.reading.specs.Layout.{node-at}
-use Rattle.reading.specs.Code.{no-node}
-use Rattle.reading.proofs.Decoded.{node-is}
+use Rattle.layout.specs.Decoding.{node-at}
+use Rattle.layout.specs.Code.{no-node}
+use Rattle.layout.proofs.Decoded.{node-is}
 use Rattle.reading.proofs.bytes.Bytes.node.Needs as need
 
 pub returns : need.returns

@@ -3,11 +3,11 @@ use Prim.Native.Nat.{ℕ, _+_, _<_, _≤_}
 use native.Mathlib.Omega.{arith}
 use lib.ListN.{length}
 use Rattle.std.proofs.shelf.Lists.{getD-replicate, length-replicate}
-use Rattle.reading.specs.Code.{body}
+use Rattle.layout.specs.Code.{body}
 use Rattle.reading.specs.Meaning.{code-of}
 use Rattle.reading.specs.Sound.{Placed}
 use Rattle.reading.proofs.Bodies.{placed-from}
-use Rattle.reading.proofs.Decoded.{length-functions}
+use Rattle.layout.proofs.Decoded.{length-functions}
 use Rattle.reading.proofs.Owning.{reached-none, owned-none, turn-next, turn-on, owned-all}
 use Rattle.reading.proofs.bytes.Bytes.owners.Needs as need
 use Rattle.reading.proofs.bytes.Bytes.owners.Needs.{then-end-i, else-end-i}

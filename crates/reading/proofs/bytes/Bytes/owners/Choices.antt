@@ -1,5 +1,5 @@
 use mathlib.Core.Path.{_≡_}
-use Rattle.reading.specs.Code.{body}
+use Rattle.layout.specs.Code.{body}
 use Rattle.reading.specs.Meaning.{code-of}
 use Rattle.reading.proofs.Owning.{Reached, Owned}
 use Rattle.reading.proofs.bytes.Bytes.owners.Given as given

@@ -1,7 +1,7 @@
 use mathlib.Core.Path.{_≡_, sym, ap, _∙_}
 use Rattle.std.specs.declared.option.Option.the-variants.{None}
 use Rattle.std.proofs.shelf.Lists.{getD-replicate}
-use Rattle.reading.specs.Tree.{parts}
+use Rattle.layout.specs.Tree.{parts}
 use Rattle.reading.specs.Meaning.{code-of}
 use Rattle.reading.proofs.Parents.{parent-none, parent-more}
 use Rattle.reading.proofs.bytes.Bytes.parents.Needs as need

@@ -3,9 +3,9 @@ use Prim.Native.Nat.{_≤_}
 use native.Mathlib.Omega.{arith}
 use lib.ListN.{length}
 use Rattle.std.proofs.shelf.Lists.{getD-default, getD-past}
-use Rattle.reading.specs.Code.{no-function}
-use Rattle.reading.specs.Layout.{functions-of}
-use Rattle.reading.proofs.Decoded.{length-functions}
+use Rattle.layout.specs.Code.{no-function}
+use Rattle.layout.specs.Decoding.{functions-of}
+use Rattle.layout.proofs.Decoded.{length-functions}
 use Rattle.reading.proofs.owners.Owners.function.Needs as need
 
 pub returns-then-g-lt64 : need.returns-then-g-lt64

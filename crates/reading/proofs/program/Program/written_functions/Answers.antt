@@ -2,8 +2,8 @@ use mathlib.Core.Path.{_≡_, ap, _∙_}
 use mathlib.Core.List.{_++_}
 use native.Mathlib.Omega.{arith}
 use Rattle.std.specs.Of.Vec.{vec-items}
-use Rattle.reading.specs.Code.{no-function}
-use Rattle.reading.specs.Encoding.{function-bytes}
+use Rattle.layout.specs.Code.{no-function}
+use Rattle.layout.specs.Encoding.{function-bytes}
 use Rattle.reading.proofs.Blocks.{pieces-more, entries-all}
 use Rattle.reading.proofs.program.Program.written_functions.Needs as need
 

@@ -1,8 +1,8 @@
 use mathlib.Core.Path.{ap, _∙_}
 use native.Mathlib.Omega.{arith}
 use Rattle.std.specs.Of.Vec.{vec-items}
-use Rattle.reading.specs.Code.{no-node}
-use Rattle.reading.specs.Encoding.{node-bytes}
+use Rattle.layout.specs.Code.{no-node}
+use Rattle.layout.specs.Encoding.{node-bytes}
 use Rattle.reading.proofs.Blocks.{entry-more, entries-all}
 use Rattle.reading.proofs.program.Program.written_nodes.Needs as need
 

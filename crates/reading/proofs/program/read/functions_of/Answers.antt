@@ -3,9 +3,9 @@ use Prim.Native.Nat.{_/_}
 use native.Mathlib.Omega.{arith}
 use lib.ListN.{length}
 use Rattle.std.specs.Options.{valueOr}
-use Rattle.reading.specs.Code.{no-function}
-use Rattle.reading.specs.Layout.{function-at, functions-of}
-use Rattle.reading.proofs.Decoded.{decoded-more, decoded-all}
+use Rattle.layout.specs.Code.{no-function}
+use Rattle.layout.specs.Decoding.{function-at, functions-of}
+use Rattle.layout.proofs.Decoded.{decoded-more, decoded-all}
 use Rattle.reading.proofs.program.read.functions_of.Needs as need
 
 pub loop-g-again : need.loop-g-again

@@ -5,8 +5,8 @@ use lib.ListN.{length}
 use Rattle.std.specs.Iters.{counting}
 use Rattle.std.specs.Options.{valueOr}
 use Rattle.std.specs.Of.Vec.{vec-items, vec-len, vec-cap}
-use Rattle.reading.specs.Code.{no-function}
-use Rattle.reading.specs.Layout.{function-at}
+use Rattle.layout.specs.Code.{no-function}
+use Rattle.layout.specs.Decoding.{function-at}
 use Rattle.reading.proofs.program.read.functions_of.Given as given
 
 abbrev pub Inv-loop-g : given.InvT-loop-g

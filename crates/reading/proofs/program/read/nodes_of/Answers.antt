@@ -3,9 +3,9 @@ use Prim.Native.Nat.{_/_}
 use native.Mathlib.Omega.{arith}
 use lib.ListN.{length}
 use Rattle.std.specs.Options.{valueOr}
-use Rattle.reading.specs.Code.{no-node}
-use Rattle.reading.specs.Layout.{node-at, nodes-of}
-use Rattle.reading.proofs.Decoded.{decoded-more, decoded-all}
+use Rattle.layout.specs.Code.{no-node}
+use Rattle.layout.specs.Decoding.{node-at, nodes-of}
+use Rattle.layout.proofs.Decoded.{decoded-more, decoded-all}
 use Rattle.reading.proofs.program.read.nodes_of.Needs as need
 
 pub loop-i-again : need.loop-i-again

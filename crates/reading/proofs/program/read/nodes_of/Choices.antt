@@ -5,8 +5,8 @@ use lib.ListN.{length}
 use Rattle.std.specs.Iters.{counting}
 use Rattle.std.specs.Options.{valueOr}
 use Rattle.std.specs.Of.Vec.{vec-items, vec-len, vec-cap}
-use Rattle.reading.specs.Code.{no-node}
-use Rattle.reading.specs.Layout.{node-at}
+use Rattle.layout.specs.Code.{no-node}
+use Rattle.layout.specs.Decoding.{node-at}
 use Rattle.reading.proofs.program.read.nodes_of.Given as given
 
 abbrev pub Inv-loop-i : given.InvT-loop-i

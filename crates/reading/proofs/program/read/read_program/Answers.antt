@@ -2,9 +2,9 @@ use mathlib.Core.Path.{_≡_, sym, ap, subst, _∙_}
 use borrow.Author.Needs.{needs}
 use Rattle.std.specs.Of.Vec.{vec-items}
 use Rattle.std.specs.declared.option.Option.the-variants.{None}
-use Rattle.reading.specs.Code.{Code, code}
-use Rattle.reading.specs.Encoding.{encoded}
-use Rattle.reading.specs.Layout.{decoded}
+use Rattle.layout.specs.Code.{Code, code}
+use Rattle.layout.specs.Encoding.{encoded}
+use Rattle.layout.specs.Decoding.{decoded}
 use Rattle.reading.specs.Verdict.{refused}
 use Rattle.reading.specs.Sound.{FewNodes, FewFunctions, FewApps, SlotsFit, TypesWhole, Placed, SlotsThere, NamesFit, CallsFit, NamedOnce, InScope}
 use Rattle.reading.proofs.Seen.{few-nodes, few-functions, few-apps, slots-good, types-whole, placed-good, slots-there, names-fit, calls-fit, named-once, in-scope, code-is}

@@ -1,5 +1,5 @@
 use native.Mathlib.Omega.{arith}
-use Rattle.reading.proofs.Decoded.{length-nodes}
+use Rattle.layout.proofs.Decoded.{length-nodes}
 use Rattle.reading.proofs.scopes.Scopes.usable.Needs as need
 
 pub index-self-i : need.index-self-i

@@ -6,13 +6,13 @@ use lib.ListN.{length, getD, replicate}
 use lib.Dec.{leb, eqb}
 use Rattle.std.specs.Options.{valueOr}
 use Rattle.levels.specs.Search.{lowest}
-use Rattle.reading.specs.declared.node.Expression.{Expression}
-use Rattle.reading.specs.declared.node.Expression.the-variants.{Constant}
-use Rattle.reading.specs.declared.node.Command.{Command}
-use Rattle.reading.specs.declared.node.Command.the-variants.{Nothing}
-use Rattle.reading.specs.declared.node.Node.{Node}
-use Rattle.reading.specs.declared.node.Node.the-variants.{Expression as Exp, Command as Com, Argument}
-use Rattle.reading.specs.declared.function.Function.{Function}
+use Rattle.layout.specs.declared.node.Expression.{Expression}
+use Rattle.layout.specs.declared.node.Expression.the-variants.{Constant}
+use Rattle.layout.specs.declared.node.Command.{Command}
+use Rattle.layout.specs.declared.node.Command.the-variants.{Nothing}
+use Rattle.layout.specs.declared.node.Node.{Node}
+use Rattle.layout.specs.declared.node.Node.the-variants.{Expression as Exp, Command as Com, Argument}
+use Rattle.layout.specs.declared.function.Function.{Function}
 
 pub record Code : Type 0 where
   pub nodes : List Node

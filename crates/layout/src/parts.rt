@@ -1,8 +1,8 @@
 //! What a node names.
 ghost use mathlib.Core.Path.{_≡_};
-ghost use Rattle.reading.specs.Code.{is-expression, is-command, is-argument};
-ghost use Rattle.reading.specs.Tree.{next-part, expression-parts, command-parts, parts, target};
-ghost use Rattle.reading.specs.Tree.{expression-slot, command-slot, slot-of};
+ghost use Rattle.layout.specs.Code.{is-expression, is-command, is-argument};
+ghost use Rattle.layout.specs.Tree.{next-part, expression-parts, command-parts, parts, target};
+ghost use Rattle.layout.specs.Tree.{expression-slot, command-slot, slot-of};
 use crate::node::Command;
 use crate::node::Expression;
 use crate::node::Node;

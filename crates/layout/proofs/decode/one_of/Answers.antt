@@ -1,6 +1,6 @@
 use mathlib.Core.Path.{_∙_}
-use Rattle.reading.specs.Layout.{node-of}
-use Rattle.reading.proofs.decode.one_of.Needs as need
+use Rattle.layout.specs.Decoding.{node-of}
+use Rattle.layout.proofs.decode.one_of.Needs as need
 
 pub returns-in-Some : need.returns-in-Some
 unfolding node-of

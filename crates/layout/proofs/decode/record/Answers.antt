@@ -3,9 +3,9 @@ use mathlib.Core.List.{List}
 use Prim.Native.Nat.{ℕ, _+_, _-_, _*_}
 use native.Mathlib.Omega.{arith}
 use lib.ListN.{take, drop}
-use Rattle.reading.specs.Layout.{byte, word, record-at}
-use Rattle.reading.specs.declared.function.Function.{Function}
-use Rattle.reading.proofs.decode.record.Needs as need
+use Rattle.layout.specs.Decoding.{byte, word, record-at}
+use Rattle.layout.specs.declared.function.Function.{Function}
+use Rattle.layout.proofs.decode.record.Needs as need
 
 made : (xs : List ℕ) (g : ℕ) {a p s e b : ℕ} {ts : List ℕ} → a ≡ byte xs (24 * g) → p ≡ byte xs (24 * g + 1) → s ≡ byte xs (24 * g + 2) → e ≡ byte xs (24 * g + 3) → b ≡ word xs (24 * g + 4) → ts ≡ take 16 (drop (24 * g + 8) xs) → _≡_ {A = Function} (record { app = a; parameters = p; slots = s; effect = e; body = b; types = ts }) (record-at xs g)
 unfolding record-at

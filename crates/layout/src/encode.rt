@@ -1,8 +1,8 @@
 //! Nodes and functions as bytes.
 ghost use mathlib.Core.Path.{_≡_};
 ghost use Prim.Native.Nat.{_/_, _%_};
-ghost use Rattle.reading.specs.Encoding.{link, operator-code, expression-operands, command-operands, operands};
-ghost use Rattle.reading.specs.Encoding.{eight, node-bytes, function-head};
+ghost use Rattle.layout.specs.Encoding.{link, operator-code, expression-operands, command-operands, operands};
+ghost use Rattle.layout.specs.Encoding.{eight, node-bytes, function-head};
 use crate::function::Function;
 use crate::node::Command;
 use crate::node::Expression;

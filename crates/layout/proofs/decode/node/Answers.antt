@@ -1,6 +1,6 @@
 use borrow.Author.Needs.{needs}
-use Rattle.reading.specs.Layout.{node-at}
-use Rattle.reading.proofs.decode.node.Needs as need
+use Rattle.layout.specs.Decoding.{node-at}
+use Rattle.layout.proofs.decode.node.Needs as need
 
 pub returns-then-list-at : need.returns-then-list-at
 unfolding node-at

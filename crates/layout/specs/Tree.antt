@@ -5,15 +5,15 @@ use lib.Dec.{eqb}
 use lib.ListN.{length}
 use Rattle.std.specs.declared.option.Option.{Option}
 use Rattle.std.specs.declared.option.Option.the-variants.{Some, None}
-use Rattle.reading.specs.declared.node.Expression.{Expression}
-use Rattle.reading.specs.declared.node.Expression.the-variants.{Constant, Slot, Figure, Operation}
-use Rattle.reading.specs.declared.node.Command.{Command}
-use Rattle.reading.specs.declared.node.Command.the-variants.{Nothing, SetSlot, SetFigure, If, While, Then, Let, Call, Test}
-use Rattle.reading.specs.declared.node.Node.{Node}
-use Rattle.reading.specs.declared.node.Node.the-variants.{Expression as Exp, Command as Com, Argument}
-use Rattle.reading.specs.declared.parts.Part.{Part}
-use Rattle.reading.specs.declared.parts.Part.the-variants.{Absent, Expression as OfExpression, Command as OfCommand, Argument as OfArgument}
-use Rattle.reading.specs.Code.{Code, node}
+use Rattle.layout.specs.declared.node.Expression.{Expression}
+use Rattle.layout.specs.declared.node.Expression.the-variants.{Constant, Slot, Figure, Operation}
+use Rattle.layout.specs.declared.node.Command.{Command}
+use Rattle.layout.specs.declared.node.Command.the-variants.{Nothing, SetSlot, SetFigure, If, While, Then, Let, Call, Test}
+use Rattle.layout.specs.declared.node.Node.{Node}
+use Rattle.layout.specs.declared.node.Node.the-variants.{Expression as Exp, Command as Com, Argument}
+use Rattle.layout.specs.declared.parts.Part.{Part}
+use Rattle.layout.specs.declared.parts.Part.the-variants.{Absent, Expression as OfExpression, Command as OfCommand, Argument as OfArgument}
+use Rattle.layout.specs.Code.{Code, node}
 
 abbrev pub next-part : Option ℕ → Part
 next-part None = Absent

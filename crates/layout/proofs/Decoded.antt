@@ -14,8 +14,8 @@ use Rattle.std.proofs.shelf.Lists.{getD-past}
 use Rattle.std.proofs.shelf.Tests.{cases-lt, and-left, lt-leb, cond-false}
 use Rattle.std.proofs.shelf.Counted.{length-map-counting, getD-map-counting, map-counting-more}
 use Rattle.levels.specs.Search.{when}
-use Rattle.reading.specs.Code.{no-node, no-function}
-use Rattle.reading.specs.Layout.{has, padded, slots-fit, record-at, node-at, function-at, nodes-of, functions-of}
+use Rattle.layout.specs.Code.{no-node, no-function}
+use Rattle.layout.specs.Decoding.{has, padded, slots-fit, record-at, node-at, function-at, nodes-of, functions-of}
 
 pub length-nodes : (xs : List ℕ) → length (nodes-of xs) ≡ length xs / 8
 unfolding nodes-of

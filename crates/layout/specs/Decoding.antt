@@ -9,16 +9,16 @@ use Rattle.std.specs.Options.{mapped, valueOr}
 use Rattle.std.specs.declared.option.Option.{Option}
 use Rattle.std.specs.declared.option.Option.the-variants.{Some, None}
 use Rattle.levels.specs.Search.{every, when, or-else}
-use Rattle.reading.specs.declared.node.Operator.{Operator}
-use Rattle.reading.specs.declared.node.Operator.the-variants.{Add, Subtract, Multiply, Divide, Less, Equal}
-use Rattle.reading.specs.declared.node.Expression.{Expression}
-use Rattle.reading.specs.declared.node.Expression.the-variants.{Constant, Slot, Figure, Operation}
-use Rattle.reading.specs.declared.node.Command.{Command}
-use Rattle.reading.specs.declared.node.Command.the-variants.{Nothing, SetSlot, SetFigure, If, While, Then, Let, Call, Test}
-use Rattle.reading.specs.declared.node.Node.{Node}
-use Rattle.reading.specs.declared.node.Node.the-variants.{Expression as Exp, Command as Com, Argument}
-use Rattle.reading.specs.declared.function.Function.{Function}
-use Rattle.reading.specs.Code.{Code, code, no-node, no-function}
+use Rattle.layout.specs.declared.node.Operator.{Operator}
+use Rattle.layout.specs.declared.node.Operator.the-variants.{Add, Subtract, Multiply, Divide, Less, Equal}
+use Rattle.layout.specs.declared.node.Expression.{Expression}
+use Rattle.layout.specs.declared.node.Expression.the-variants.{Constant, Slot, Figure, Operation}
+use Rattle.layout.specs.declared.node.Command.{Command}
+use Rattle.layout.specs.declared.node.Command.the-variants.{Nothing, SetSlot, SetFigure, If, While, Then, Let, Call, Test}
+use Rattle.layout.specs.declared.node.Node.{Node}
+use Rattle.layout.specs.declared.node.Node.the-variants.{Expression as Exp, Command as Com, Argument}
+use Rattle.layout.specs.declared.function.Function.{Function}
+use Rattle.layout.specs.Code.{Code, code, no-node, no-function}
 
 -- one byte, and two bytes, the higher first
 abbrev pub byte : List ℕ → ℕ → ℕ

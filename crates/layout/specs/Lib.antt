@@ -1,0 +1,4 @@
+pub mod Code
+pub mod Tree
+pub mod Decoding
+pub mod Encoding
