@@ -13,7 +13,7 @@ use Rattle.std.specs.declared.option.Option.the-variants.{Some, None}
 use Rattle.std.proofs.shelf.Lists.{getD-past}
 use Rattle.std.proofs.shelf.Tests.{cases-lt, and-left, lt-leb, cond-false}
 use Rattle.std.proofs.shelf.Counted.{length-map-counting, getD-map-counting, map-counting-more}
-use Rattle.levels.specs.Search.{when}
+use Rattle.levels.specs.Scan.{when}
 use Rattle.layout.specs.Code.{no-node, no-function}
 use Rattle.layout.specs.Decoding.{has, padded, slots-fit, record-at, node-at, function-at, nodes-of, functions-of}
 

@@ -5,7 +5,7 @@ use Prim.Native.Nat.{ℕ, _+_, _-_}
 use lib.ListN.{length, getD, replicate}
 use lib.Dec.{leb, eqb}
 use Rattle.std.specs.Options.{valueOr}
-use Rattle.levels.specs.Search.{lowest}
+use Rattle.levels.specs.Scan.{lowest}
 use Rattle.layout.specs.declared.node.Expression.{Expression}
 use Rattle.layout.specs.declared.node.Expression.the-variants.{Constant}
 use Rattle.layout.specs.declared.node.Command.{Command}

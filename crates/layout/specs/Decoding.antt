@@ -8,7 +8,7 @@ use Rattle.std.specs.Iters.{counting}
 use Rattle.std.specs.Options.{mapped, valueOr}
 use Rattle.std.specs.declared.option.Option.{Option}
 use Rattle.std.specs.declared.option.Option.the-variants.{Some, None}
-use Rattle.levels.specs.Search.{every, when, or-else}
+use Rattle.levels.specs.Scan.{every, when, or-else}
 use Rattle.layout.specs.declared.node.Operator.{Operator}
 use Rattle.layout.specs.declared.node.Operator.the-variants.{Add, Subtract, Multiply, Divide, Less, Equal}
 use Rattle.layout.specs.declared.node.Expression.{Expression}

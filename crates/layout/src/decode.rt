@@ -2,7 +2,7 @@
 ghost use mathlib.Core.Path.{_≡_};
 ghost use Prim.Native.Nat.{ℕ, _+_, _*_, _^_, _<_, _≤_};
 ghost use lib.ListN.{length};
-ghost use Rattle.levels.specs.Search.{when};
+ghost use Rattle.levels.specs.Scan.{when};
 ghost use Rattle.layout.specs.Decoding.{byte, word, linked, operator-of, operation-of, expression-of, command-of, argument-of, node-of};
 ghost use Rattle.layout.specs.Decoding.{node-at, record-at, padded, untyped, slots-fit, function-at};
 use crate::function::Function;
@@ -10,8 +10,8 @@ use crate::node::Command;
 use crate::node::Expression;
 use crate::node::Node;
 use crate::node::Operator;
-use levels::search::Test;
-use levels::search::every;
+use levels::scan::Test;
+use levels::scan::every;
 
 pub fn when<T: Drop>(test: bool, x: T) -> Option<T>
     ensures { λ r. ⌜ r ≡ when test x ⌝ }

@@ -10,11 +10,11 @@ use Rattle.std.specs.Options.{isSome}
 use Rattle.std.specs.Orderings.{Decides}
 use Rattle.std.proofs.shelf.Tests.{and-parts, and-from, and-left, and-right, eq-eqb, ltb-true, lt-ltb, not-from-true, not-from-false, cases-bool}
 use Rattle.levels.specs.Order.{Order, Laws, Same}
-use Rattle.levels.specs.Search.{every, lowest}
+use Rattle.levels.specs.Scan.{every, lowest}
 use Rattle.levels.specs.Marks.{marked, toward, past-both, follows, is-bound, bound, unmarked, mutual-marks, broken-chain, no-bound, some-level, well-shaped, is-lattice}
 use Rattle.levels.specs.Tables.{rank, ranks, Of-marks, Marks-a-lattice, Means-the-marks}
 use Rattle.levels.specs.declared.table.Rank.{Rank}
-use Rattle.levels.proofs.Searches.{every-from, lowest-some, nowhere-from}
+use Rattle.levels.proofs.Scans.{every-from, lowest-some, nowhere-from}
 use Rattle.levels.proofs.OrderLaws.{same-order}
 use Rattle.levels.proofs.RankLaws.{rank-laws}
 

@@ -1,6 +1,6 @@
 -- The worked examples of order tables, computed. Assumes nothing.
 use mathlib.Core.Path.{refl}
-use Rattle.levels.specs.Search.{every, lowest}
+use Rattle.levels.specs.Scan.{every, lowest}
 use Rattle.levels.specs.Examples.{Table-examples}
 
 pub table-examples : Table-examples

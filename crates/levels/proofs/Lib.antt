@@ -1,4 +1,4 @@
-pub mod Searches
+pub mod Scans
 pub mod OrderLaws
 pub mod Examples
 mod BitSets

@@ -12,12 +12,12 @@ use Rattle.std.specs.declared.option.Option.{Option}
 use Rattle.std.specs.declared.option.Option.the-variants.{Some, None}
 use Rattle.std.proofs.shelf.Tests.{and-parts, and-from, and-cases, and-left, and-right, not-true, not-false, both-ways, eqb-true, ltb-true, lt-ltb, false≢true}
 use Rattle.levels.specs.Order.{Order, Laws}
-use Rattle.levels.specs.Search.{every, lowest}
+use Rattle.levels.specs.Scan.{every, lowest}
 use Rattle.levels.specs.Marks.{marked, toward, past-both, follows, is-bound, bound, is-end, end, unmarked, mutual-marks, broken-chain, no-bound, some-level, is-lattice}
 use Rattle.levels.specs.Bounds.{Holds-bounds}
 use Rattle.levels.specs.Tables.{rank, ranks}
 use Rattle.levels.specs.declared.table.Rank.{Rank}
-use Rattle.levels.proofs.Searches.{every-at, every-from, lowest-passes, lowest-below, lowest-some, lowest-none, nowhere, last-or-before}
+use Rattle.levels.proofs.Scans.{every-at, every-from, lowest-passes, lowest-below, lowest-some, lowest-none, nowhere, last-or-before}
 
 implied : (x y : Bool) → (not x || y) ≡ true → x ≡ true → y ≡ true
 implied true y h e = h

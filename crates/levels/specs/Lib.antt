@@ -1,4 +1,4 @@
-pub mod Search
+pub mod Scan
 pub mod Refusals
 pub mod Order
 pub mod Tags

@@ -6,7 +6,7 @@ use lib.Dec.{eqb, ltb, leb}
 use lib.ListN.{length, getD}
 use Rattle.std.specs.Options.{isSome}
 use Rattle.std.specs.declared.option.Option.{Option}
-use Rattle.levels.specs.Search.{every, lowest}
+use Rattle.levels.specs.Scan.{every, lowest}
 
 -- i is marked at or below j; only levels that have a row are
 abbrev pub marked : List ℕ → ℕ → ℕ → Bool

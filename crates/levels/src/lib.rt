@@ -1,4 +1,4 @@
-//! The ground floor: what a refusal is, searches, and the lattices of levels of secrecy.
+//! The ground floor: what a refusal is, scans over numbers, and the lattices of levels of secrecy.
 ghost use mathlib.Core.Path.{_≡_};
 ghost use Rattle.levels.specs.Order.{Order, Laws};
 
@@ -6,7 +6,7 @@ pub mod either;
 mod marks;
 pub mod pair;
 pub mod refusal;
-pub mod search;
+pub mod scan;
 pub mod table;
 pub mod tags;
 

@@ -1,4 +1,4 @@
-//! Marks of an order of at most 16 levels, and the searches of their mistakes and bounds.
+//! Marks of an order of at most 16 levels, and the scans for their mistakes and bounds.
 ghost use denote.Ref.{now};
 ghost use mathlib.Core.Path.{_≡_};
 ghost use Prim.Native.Nat.{_≤_};

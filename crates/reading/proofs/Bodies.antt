@@ -11,8 +11,8 @@ use Rattle.std.specs.Options.{isSome, valueOr}
 use Rattle.std.specs.declared.option.Option.{Option}
 use Rattle.std.specs.declared.option.Option.the-variants.{Some, None}
 use Rattle.std.proofs.shelf.Tests.{and-parts, or-cases, not-false, not-true, not-from-true, both-ways, ltb-true, leb-true, le-leb, lt-leb, eqb-true, eqb-false, ne-eqb, cond-false}
-use Rattle.levels.specs.Search.{lowest}
-use Rattle.levels.proofs.Searches.{lowest-found}
+use Rattle.levels.specs.Scan.{lowest}
+use Rattle.levels.proofs.Scans.{lowest-found}
 use Rattle.layout.specs.Code.{Code, function, body, start, owner}
 use Rattle.layout.specs.Decoding.{function-at}
 use Rattle.reading.specs.RecordRule.{last-function, placed, record-broken}

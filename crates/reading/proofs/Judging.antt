@@ -5,7 +5,7 @@ use Prim.Native.Nat.{ℕ}
 use lib.ListN.{length}
 use Rattle.std.specs.declared.option.Option.{Option}
 use Rattle.std.specs.declared.option.Option.the-variants.{Some, None}
-use Rattle.levels.specs.Search.{lowest, or-else}
+use Rattle.levels.specs.Scan.{lowest, or-else}
 use Rattle.levels.specs.declared.refusal.Refusal.{Refusal}
 use Rattle.layout.specs.Code.{Code}
 use Rattle.reading.specs.RecordRule.{record-broken}

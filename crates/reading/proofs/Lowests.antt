@@ -9,7 +9,7 @@ use Rattle.std.specs.declared.option.Option.{Option}
 use Rattle.std.specs.declared.option.Option.the-variants.{Some, None}
 use Rattle.std.specs.Options.{valueOr}
 use Rattle.std.proofs.shelf.Tests.{cases-eq}
-use Rattle.levels.specs.Search.{when, or-else, lowest}
+use Rattle.levels.specs.Scan.{when, or-else, lowest}
 
 -- where no place was found, the test fails at each
 pub lowest-all : (n i : ℕ) (f : ℕ → Bool) → lowest n f ≡ None → i < n → f i ≡ false

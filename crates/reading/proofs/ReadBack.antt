@@ -14,7 +14,7 @@ use Rattle.std.specs.declared.result.Result.the-variants.{Ok}
 use Rattle.std.proofs.shelf.Counted.{fill-by-all}
 use Rattle.std.proofs.shelf.Lists.{getD-drop, drop-drop, take-at}
 use Rattle.std.proofs.shelf.Tests.{and-from, or-from, not-false, not-from-true, le-leb, eq-eqb, ne-eqb, cond-true, cond-false}
-use Rattle.levels.specs.Search.{when}
+use Rattle.levels.specs.Scan.{when}
 use Rattle.layout.specs.declared.node.Operator.{Operator}
 use Rattle.layout.specs.declared.node.Operator.the-variants.{Add, Subtract, Multiply, Divide, Less, Equal}
 use Rattle.layout.specs.declared.node.Expression.{Expression}

@@ -12,7 +12,7 @@ use Rattle.std.specs.declared.option.Option.{Option}
 use Rattle.std.specs.declared.option.Option.the-variants.{Some, None}
 use Rattle.std.proofs.shelf.Lists.{length-take}
 use Rattle.std.proofs.shelf.Tests.{not-false, not-from-true, and-parts, or-parts, cases-bool, cond-true, cond-false, leb-true, eqb-true, false≢true}
-use Rattle.levels.specs.Search.{lowest, when}
+use Rattle.levels.specs.Scan.{lowest, when}
 use Rattle.levels.specs.declared.refusal.Refusal.{Refusal}
 use Rattle.levels.specs.declared.refusal.Place.the-variants.{Whole}
 use Rattle.levels.specs.Refusals.{broken}

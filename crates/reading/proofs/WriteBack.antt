@@ -17,7 +17,7 @@ use Rattle.std.specs.declared.result.Result.{Result}
 use Rattle.std.specs.declared.result.Result.the-variants.{Ok, Err}
 use Rattle.std.proofs.shelf.Lists.{drop-drop, take-all}
 use Rattle.std.proofs.shelf.Tests.{and-parts, eqb-true, leb-true, le-leb, cases-bool, cond-true, cond-false, false≢true}
-use Rattle.levels.specs.Search.{when, or-else}
+use Rattle.levels.specs.Scan.{when, or-else}
 use Rattle.levels.specs.declared.refusal.Refusal.{Refusal}
 use Rattle.layout.specs.declared.node.Operator.{Operator}
 use Rattle.layout.specs.declared.node.Operator.the-variants.{Add, Subtract, Multiply, Divide, Less, Equal}

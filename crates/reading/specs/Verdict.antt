@@ -8,7 +8,7 @@ use Rattle.std.specs.declared.option.Option.{Option}
 use Rattle.std.specs.declared.option.Option.the-variants.{Some, None}
 use Rattle.std.specs.declared.result.Result.{Result}
 use Rattle.std.specs.declared.result.Result.the-variants.{Ok, Err}
-use Rattle.levels.specs.Search.{lowest, or-else}
+use Rattle.levels.specs.Scan.{lowest, or-else}
 use Rattle.levels.specs.Refusals.{broken}
 use Rattle.levels.specs.declared.refusal.Refusal.{Refusal}
 use Rattle.levels.specs.declared.refusal.Place.the-variants.{Whole, Node, Function}

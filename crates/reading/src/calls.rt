@@ -2,7 +2,7 @@
 ghost use denote.Ref.{now};
 ghost use mathlib.Core.Path.{_≡_};
 ghost use lib.ListN.{length};
-ghost use Rattle.levels.specs.Search.{lowest};
+ghost use Rattle.levels.specs.Scan.{lowest};
 ghost use Rattle.reading.specs.Meaning.{code-of};
 ghost use Rattle.layout.specs.Tree.{next-of};
 ghost use Rattle.reading.specs.CallRule.{chained, calls-well, call-broken};
@@ -10,8 +10,8 @@ use crate::bytes::Bytes;
 use crate::owners::Owners;
 use layout::node::Command;
 use layout::node::Node;
-use levels::search::Test;
-use levels::search::lowest;
+use levels::scan::Test;
+use levels::scan::lowest;
 
 impl<'a> Bytes<'a> {
     fn next_of(&self, argument: Option<u16>) -> Option<Option<u16>>

@@ -2,13 +2,13 @@
 ghost use denote.Ref.{now};
 ghost use mathlib.Core.Path.{_≡_};
 ghost use lib.ListN.{length};
-ghost use Rattle.levels.specs.Search.{lowest};
+ghost use Rattle.levels.specs.Scan.{lowest};
 ghost use Rattle.reading.specs.Meaning.{code-of};
 ghost use Rattle.reading.specs.CodeRule.{past, slot-broken, code-broken};
 use crate::owners::Owners;
 use layout::decode;
-use levels::search::Test;
-use levels::search::lowest;
+use levels::scan::Test;
+use levels::scan::lowest;
 
 fn past(slots: u8, slot: Option<u8>) -> bool
     ensures { λ r. ⌜ r ≡ past slots slot ⌝ }

@@ -3,14 +3,14 @@ ghost use denote.Ref.{now};
 ghost use mathlib.Core.Path.{_≡_};
 ghost use Prim.Native.Nat.{ℕ, _+_, _<_};
 ghost use lib.ListN.{length, getD};
-ghost use Rattle.levels.specs.Search.{lowest};
+ghost use Rattle.levels.specs.Scan.{lowest};
 ghost use Rattle.layout.specs.Tree.{hit, namings};
 ghost use Rattle.reading.specs.Meaning.{code-of};
 ghost use Rattle.reading.specs.OnceRule.{once-broken};
 use crate::bytes::Bytes;
 use crate::owners::Owners;
-use levels::search::Test;
-use levels::search::lowest;
+use levels::scan::Test;
+use levels::scan::lowest;
 
 // Counts one naming more.
 fn mark(marks: &mut [u16; 4096], target: Option<u16>)

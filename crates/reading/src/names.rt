@@ -2,14 +2,14 @@
 ghost use denote.Ref.{now};
 ghost use mathlib.Core.Path.{_≡_};
 ghost use lib.ListN.{length};
-ghost use Rattle.levels.specs.Search.{lowest};
+ghost use Rattle.levels.specs.Scan.{lowest};
 ghost use Rattle.reading.specs.Meaning.{code-of};
 ghost use Rattle.reading.specs.NamingRule.{lies, part-fits, all-fit, is-body, ends-well, naming-broken};
 use crate::bytes::Bytes;
 use crate::owners::Owners;
 use layout::parts::Part;
-use levels::search::Test;
-use levels::search::lowest;
+use levels::scan::Test;
+use levels::scan::lowest;
 
 // Whether node b lies below node i of a function that begins at `low`.
 fn lies(low: u32, i: u16, b: u16) -> bool

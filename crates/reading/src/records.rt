@@ -2,13 +2,13 @@
 ghost use denote.Ref.{now};
 ghost use mathlib.Core.Path.{_≡_};
 ghost use lib.ListN.{length};
-ghost use Rattle.levels.specs.Search.{lowest};
+ghost use Rattle.levels.specs.Scan.{lowest};
 ghost use Rattle.reading.specs.Meaning.{code-of};
 ghost use Rattle.reading.specs.RecordRule.{last-function, placed, record-broken};
 use crate::bytes::Bytes;
 use layout::decode;
-use levels::search::Test;
-use levels::search::lowest;
+use levels::scan::Test;
+use levels::scan::lowest;
 
 impl<'a> Bytes<'a> {
     fn is_last(&self, g: u16) -> bool

@@ -6,7 +6,7 @@ ghost use Prim.Native.Nat.{ℕ, _+_, _<_};
 ghost use lib.Dec.{ltb};
 ghost use lib.ListN.{length, getD};
 ghost use Rattle.std.specs.declared.option.Option.the-variants.{Some, None};
-ghost use Rattle.levels.specs.Search.{lowest};
+ghost use Rattle.levels.specs.Scan.{lowest};
 ghost use Rattle.layout.specs.Tree.{hit};
 ghost use Rattle.reading.specs.Meaning.{code-of};
 ghost use Rattle.reading.specs.NamingRule.{naming-broken};
@@ -17,8 +17,8 @@ use crate::owners::Owners;
 use layout::node::Command;
 use layout::node::Expression;
 use layout::node::Node;
-use levels::search::Test;
-use levels::search::lowest;
+use levels::scan::Test;
+use levels::scan::lowest;
 
 fn adding(a: u8, set: u16) -> u16
     ensures { λ r. ⌜ r ≡ adding a set ⌝ }

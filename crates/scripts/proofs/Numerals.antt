@@ -20,7 +20,7 @@ use Rattle.std.proofs.shelf.Decimals.{decimal-digit, decimal-reads, first-decim
 use Rattle.std.specs.Reads.{value, Digits}
 use Rattle.std.specs.Text.{digitValue}
 use Rattle.std.specs.Written.{decimal}
-use Rattle.levels.specs.Search.{when}
+use Rattle.levels.specs.Scan.{when}
 use Rattle.scripts.specs.declared.number.Base.{Base}
 use Rattle.scripts.specs.declared.number.Base.the-variants.{Ten, Sixteen}
 use Rattle.scripts.specs.Numbers.{radix, below, before, digit-of, digits-of, written, numeral-of, prefixed, number-of}

@@ -9,7 +9,7 @@ use Rattle.std.specs.declared.option.Option.the-variants.{Some, None}
 use Rattle.std.specs.Options.{mapped}
 use Rattle.std.specs.Text.{within}
 use Rattle.std.specs.shelf.Digits.{number}
-use Rattle.levels.specs.Search.{when}
+use Rattle.levels.specs.Scan.{when}
 use Rattle.scripts.specs.declared.number.Base.{Base}
 use Rattle.scripts.specs.declared.number.Base.the-variants.{Ten, Sixteen}
 

@@ -5,7 +5,7 @@ use lib.Dec.{leb}
 use lib.ListN.{length, take}
 use Rattle.std.specs.declared.option.Option.{Option}
 use Rattle.std.specs.declared.option.Option.the-variants.{Some, None}
-use Rattle.levels.specs.Search.{when}
+use Rattle.levels.specs.Scan.{when}
 use Rattle.scripts.specs.declared.parts.Parts.{Parts}
 use Rattle.scripts.specs.Numbers.{each, number-of}
 use Rattle.scripts.specs.Pieces.{pieces-of}

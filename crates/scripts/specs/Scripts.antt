@@ -14,7 +14,7 @@ use Rattle.std.specs.declared.result.Result.{Result}
 use Rattle.std.specs.declared.result.Result.the-variants.{Ok, Err}
 use Rattle.std.specs.shelf.Maps.{nth}
 use Rattle.std.specs.shelf.Text.{sameBytes}
-use Rattle.levels.specs.Search.{or-else}
+use Rattle.levels.specs.Scan.{or-else}
 use Rattle.scripts.specs.Drafts.{Word}
 use Rattle.scripts.specs.Pieces.{pieces-of}
 use Rattle.scripts.specs.Scenes.{Scene, no-bytes, one-more, Answered, Answered-within, Latticed, scenario-begun, book-chosen, levels-given, figures-given, policy-told, nodes-added, functions-added, apps-added, cleared}

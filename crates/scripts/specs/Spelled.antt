@@ -8,7 +8,7 @@ use Rattle.std.specs.Options.{mapped}
 use Rattle.std.specs.Written.{decimal}
 use Rattle.std.specs.declared.option.Option.{Option}
 use Rattle.std.specs.declared.option.Option.the-variants.{Some, None}
-use Rattle.levels.specs.Search.{when}
+use Rattle.levels.specs.Scan.{when}
 use Rattle.levels.specs.Tables.{rank}
 use Rattle.levels.specs.Tags.{set-of}
 use Rattle.scripts.specs.Parts.{parts-of}

@@ -4,9 +4,9 @@ ghost use mathlib.Core.Path.{_≡_};
 ghost use Rattle.levels.specs.Bounds.{Holds-row, Holds-bounds};
 ghost use Rattle.levels.specs.Marks.{toward, follows, is-bound, bound, is-end, end};
 use crate::marks::Marks;
-use crate::search::Test;
-use crate::search::every;
-use crate::search::lowest;
+use crate::scan::Test;
+use crate::scan::every;
+use crate::scan::lowest;
 
 // Whether d, if it lies past both a and b, lies past c.
 #[derive(Drop)]

@@ -3,8 +3,8 @@ ghost use denote.Ref.{now};
 ghost use mathlib.Core.Path.{_≡_};
 ghost use Rattle.levels.specs.Marks.{unmarked, mutual-marks, broken-chain, no-bound, some-level, is-lattice};
 use crate::marks::Marks;
-use crate::search::Test;
-use crate::search::lowest;
+use crate::scan::Test;
+use crate::scan::lowest;
 
 // A level that lacks its own mark.
 #[derive(Drop)]

@@ -13,8 +13,8 @@ ghost use Rattle.levels.specs.Marks.{row-fits, well-shaped, bound, end, is-lat
 ghost use Rattle.levels.specs.Refusals.{answer};
 ghost use Rattle.levels.specs.Tables.{rows-of, table-order, table-refusal, table-verdict, Marks-a-lattice, Means-the-marks};
 use crate::marks::Marks;
-use crate::search::Test;
-use crate::search::every;
+use crate::scan::Test;
+use crate::scan::every;
 use crate::table::OrderTable;
 use crate::table::TableFault;
 

@@ -3,7 +3,7 @@ use lib.ListN.{length}
 use mathlib.Core.Path.{ap, _∙_}
 use Rattle.std.specs.Options.{valueOr}
 use Rattle.levels.specs.Marks.{is-bound}
-use Rattle.levels.proofs.Searches.{lowest-at-most}
+use Rattle.levels.proofs.Scans.{lowest-at-most}
 use Rattle.levels.proofs.marks.Marks.bound_row.Needs as need
 
 pub cast-held : need.cast-held

@@ -4,7 +4,7 @@ use mathlib.Core.Bool.{true, false}
 use mathlib.Core.Path.{ap, _∙_}
 use Rattle.std.specs.Options.{valueOr}
 use Rattle.levels.specs.Marks.{is-end}
-use Rattle.levels.proofs.Searches.{lowest-at-most}
+use Rattle.levels.proofs.Scans.{lowest-at-most}
 use Rattle.levels.proofs.marks.Marks.table.Needs as need
 
 pub cast-result-2 : need.cast-result-2

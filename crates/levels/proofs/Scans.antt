@@ -10,7 +10,7 @@ use Rattle.std.specs.declared.option.Option.{Option}
 use Rattle.std.specs.declared.option.Option.the-variants.{Some, None}
 use Rattle.std.specs.Options.{isSome, valueOr}
 use Rattle.std.proofs.shelf.Tests.{and-parts, and-from, and-left, and-right, both-ways, cases-bool, false≢true, true≢false}
-use Rattle.levels.specs.Search.{every, lowest, or-else, when}
+use Rattle.levels.specs.Scan.{every, lowest, or-else, when}
 
 module _ (f : ℕ → Bool) where
   pub every-more : (i : ℕ) → every i f ≡ true → f i ≡ true → every (i + 1) f ≡ true

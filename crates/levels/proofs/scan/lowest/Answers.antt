@@ -1,7 +1,7 @@
 use mathlib.Core.Path.{refl, sym}
-use Rattle.levels.specs.Search.{lowest}
-use Rattle.levels.proofs.Searches.{lowest-more, lowest-found}
-use Rattle.levels.proofs.search.lowest.Needs as need
+use Rattle.levels.specs.Scan.{lowest}
+use Rattle.levels.proofs.Scans.{lowest-more, lowest-found}
+use Rattle.levels.proofs.scan.lowest.Needs as need
 
 pub returns-then-test : need.returns-then-test
 returns-then-test g c = sym (lowest-found _ _ _ (c .loop-i-test .taken) (c .loop-i .inv) (sym (c .if-test .ensures tt)))

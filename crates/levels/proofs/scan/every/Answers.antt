@@ -1,7 +1,7 @@
 use mathlib.Core.Path.{refl, sym}
-use Rattle.levels.specs.Search.{every}
-use Rattle.levels.proofs.Searches.{every-more, every-broken}
-use Rattle.levels.proofs.search.every.Needs as need
+use Rattle.levels.specs.Scan.{every}
+use Rattle.levels.proofs.Scans.{every-more, every-broken}
+use Rattle.levels.proofs.scan.every.Needs as need
 
 pub returns-then-not-test : need.returns-then-not-test
 returns-then-not-test g c = sym (every-broken _ _ _ (c .loop-i-test .taken) (sym (c .if-not-test .ensures tt)))

@@ -2,7 +2,7 @@
 ghost use mathlib.Core.Bool.{Bool};
 ghost use mathlib.Core.Path.{_≡_};
 ghost use Prim.Native.Nat.{ℕ};
-ghost use Rattle.levels.specs.Search.{every, lowest};
+ghost use Rattle.levels.specs.Scan.{every, lowest};
 
 /// A test of numbers.
 pub trait Test {
