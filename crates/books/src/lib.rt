@@ -1,4 +1,6 @@
 //! Type books: a level for each type and permission set, and one for each figure.
+#![tactic(auto)]
+
 ghost use Rattle.std.specs.Prelude.{◌≡◌};
 ghost use Rattle.std.specs.List.{slice_get};
 ghost use Rattle.books.specs.Book.{Book, Limits};

@@ -1,4 +1,6 @@
 //! The nodes and functions of a program, and how they are bytes. The lower half of reading.
+#![tactic(auto)]
+
 pub mod decode;
 pub mod encode;
 pub mod function;

@@ -1,4 +1,6 @@
 //! The ground floor: what a refusal is, scans over numbers, and the lattices of levels of secrecy.
+#![tactic(auto)]
+
 ghost use Rattle.std.specs.Prelude.{◌≡◌};
 ghost use Rattle.levels.specs.Order.{Order, Laws};
 

@@ -13,7 +13,7 @@ pub trait Test {
 
 /// The lowest number below `n` at which the test passes.
 pub fn lowest<T: Test>(n: u16, test: &T) -> Option<u16>
-    ensures { result ≡ lowest n (passes test.now) }
+    ensures { result ≡ lowest n (T.passes test.now) }
 {
     for i in 0..n {
         if test.test(i) {
@@ -25,7 +25,7 @@ pub fn lowest<T: Test>(n: u16, test: &T) -> Option<u16>
 
 /// Whether the test passes at every number below `n`.
 pub fn every<T: Test>(n: u16, test: &T) -> bool
-    ensures { result ≡ every n (passes test.now) }
+    ensures { result ≡ every n (T.passes test.now) }
 {
     for i in 0..n {
         if !test.test(i) {

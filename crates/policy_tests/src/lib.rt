@@ -1,4 +1,6 @@
 //! Worked examples of lattices and books, run.
+#![tactic(auto)]
+
 #[cfg(test)]
 mod lattices;
 #[cfg(test)]

@@ -1,4 +1,6 @@
 //! Reads a scenario script from standard input and writes its transcript.
+#![tactic(auto)]
+
 use anyhow::anyhow;
 use scripts::script::perform;
 use std::io::{Read, Write};

@@ -1,4 +1,6 @@
 //! Reading: a program in bytes, read exactly, and written again.
+#![tactic(auto)]
+
 mod bytes;
 mod calls;
 mod codes;

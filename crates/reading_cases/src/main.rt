@@ -2,6 +2,8 @@
 //! A case is `NAME: NODES / FUNCTIONS / APPS`, lists of groups of hexadecimal digits. In a group a dot stands for zeros up to
 //! the next multiple of eight bytes. `GROUP*N` is a group N times, and `GROUP*N+STEP` adds the step to it each time, as one
 //! large number.
+#![tactic(auto)]
+
 ghost use Rattle.std.specs.Prelude.{◌<◌, length, IfSome};
 
 use anyhow::anyhow;

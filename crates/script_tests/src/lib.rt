@@ -1,4 +1,6 @@
 //! Examples of scripts, run.
+#![tactic(auto)]
+
 #[cfg(test)]
 mod faults;
 #[cfg(test)]

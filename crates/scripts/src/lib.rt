@@ -1,4 +1,6 @@
 //! Scenario scripts: the text of a script, its commands, and the transcript.
+#![tactic(auto)]
+
 pub mod draft;
 pub mod fault;
 pub mod hex;

@@ -141,7 +141,7 @@ impl<'a> Test for NoBound<'a> {
 impl<'a> Marks<'a> {
     // Whether a test passes at some level.
     fn some_level<T: Test>(self, test: &T) -> bool
-        ensures { result ≡ some_level self.entry.rows.now (passes test.now) }
+        ensures { result ≡ some_level self.entry.rows.now (T.passes test.now) }
     {
         lowest(self.count(), test).is_some()
     }

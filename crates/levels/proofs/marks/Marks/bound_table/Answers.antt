@@ -8,5 +8,5 @@ loop-a-preserved c =
       simp length-set c.loop-a.invariant.0,
       below_more _ _
           (λ k h. let ne : k ≢ c.loop-a.a = omega arith in subst (Holds k) (sym (get_or-set_other c.loop-a.held _ _ _ [] ne)) (c.loop-a.invariant.1 k h))
-          (let lt : c.loop-a.a < length c.loop-a.held = omega arith in subst (Holds c.loop-a.a) (sym (get_or-set_same c.loop-a.held _ _ [] lt)) c.bound-row.ensures),
+          (let lt : c.loop-a.a < length c.loop-a.held = omega arith in subst (Holds c.loop-a.a) (sym (get_or-set_same c.loop-a.held _ _ [] lt)) c.bound_row.ensures),
     )

@@ -18,8 +18,8 @@ returns-then-not-is-lattice c =
 pub returns : goal.returns
 returns c =
     let rows = c.args.rows.now in
-    let good : is_lattice rows ≡ true = sym (c.if-not-is-lattice.ensures ∙ ap is_lattice c.new-marks.ensures) in
-    let shaped : well_shaped rows ≡ true = sym c.if-not-well-shaped.ensures in
+    let good : is_lattice rows ≡ true = sym (c.if-not-is_lattice.ensures ∙ ap is_lattice c.new-marks.ensures) in
+    let shaped : well_shaped rows ≡ true = sym c.if-not-well_shaped.ensures in
     let kept : rows_of c.table.result ≡ rows = c.table.ensures ∙ c.new-marks.ensures in record {
       answer = search rules;
       exactly = (λ _. (shaped, (exact rows shaped).0 good), λ _. refl);
