@@ -1,5 +1,5 @@
 -- What a type book means: its numbers, and the levels of its types and figures. Assumes nothing.
-use Rattle.std.specs.Prelude.{◌≡◌, ℕ, ◌^◌, ◌≤◌, Bool, ◌&&◌, is_some, Option, nat_lt}
+use Rattle.std.specs.Prelude.{◌≡◌, ℕ, ◌^◌, ◌≤◌, ◌&&◌, is_some, Option, nat_lt}
 
 pub record Book (Level : Type 0) : Type 0 where
   pub permissions : ℕ

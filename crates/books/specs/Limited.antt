@@ -1,10 +1,10 @@
 -- A book whose lists fit keeps the limits. Assumes nothing.
 use Rattle.std.specs.Prelude.{◌≡◌, ℕ, zero, suc, ◌+◌, ◌*◌, ◌^◌, ◌<◌, ◌≤◌, Bool, true, false, cond, ◌&&◌, ltb, List, [], ◌∷◌, length, is_some, None, Option, ◌==◌, nat_le, nat_lt, refl}
-use Rattle.std.proofs.Common.{sym, ap, ◌∙◌, ⊎_elim, arith}
+use Rattle.std.proofs.Common.{sym, ◌∙◌, ⊎_elim, arith}
 use Rattle.std.specs.List.{slice_get}
 use Rattle.std.proofs.lemmas.Nat.{mul-add-lt}
 use Rattle.std.proofs.lemmas.Bool.{and_parts, and_right, eqb-true, leb-true, ltb-true, lt-ltb, le-ltb, cases_lt}
-use Rattle.books.specs.Book.{Book, Limits}
+use Rattle.books.specs.Book.{Limits}
 use Rattle.books.specs.Lists.{row_book, fixed_book, within_limits, row_fits, fixed_fits}
 
 some_nth : {L : Type 0} (xs : List L) (i : ℕ) → is_some (slice_get xs i) ≡ nat_lt i (length xs)

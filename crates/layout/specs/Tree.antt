@@ -1,5 +1,5 @@
 -- What the nodes of a program name: the tree, and how often each node is named in it.
-use Rattle.std.specs.Prelude.{ℕ, zero, suc, ◌+◌, cond, length, Some, None, Option, ◌==◌}
+use Rattle.std.specs.Prelude.{ℕ, zero, suc, ◌+◌, cond, Some, None, Option, ◌==◌}
 use Rattle.layout.specs.declared.node.Expression.{Expression}
 use Rattle.layout.specs.declared.node.Expression.TheVariants.{Constant, Slot, Figure, Operation}
 use Rattle.layout.specs.declared.node.Command.{Command}

@@ -1,8 +1,8 @@
 -- The laws of sets kept in bits that lib.Bits lacks: each by the binary digits. Assumes nothing.
 use Rattle.std.specs.Prelude.{◌≡◌, ℕ, zero, suc, ◌+◌, ◌*◌, ◌/◌, ◌%◌, ◌<◌, refl}
-use Rattle.std.proofs.Common.{sym, ap, ap₂, ◌∙◌, div-add-mod', mod-lt, not-suc-le-zero, le_of_suc-le-suc, zero-lt-suc, arith}
+use Rattle.std.proofs.Common.{sym, ap, ap₂, ◌∙◌, div-add-mod', mod-lt, not-suc-le-zero, le_of_suc-le-suc, zero-lt-suc}
 use Rattle.std.proofs.Math.Arith.{bin_ind}
-use Rattle.std.specs.Int.Bits.{bit_and, bit_or, and_self, and_zero_r}
+use Rattle.std.specs.Int.Bits.{bit_and, bit_or, and_self}
 use Rattle.std.proofs.lemmas.Nat.{and_shr, and_mod, or_shr, or_mod, and_comm, or_comm}
 
 by_digits : {a b : ℕ} → a / 2 ≡ b / 2 → a % 2 ≡ b % 2 → a ≡ b

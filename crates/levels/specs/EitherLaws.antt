@@ -1,9 +1,9 @@
 -- The chosen one of two lattices is a lattice. Assumes nothing.
 use Rattle.std.specs.Prelude.{◌≡◌, Bool, true, false, ◌&&◌, Some, None, Option, refl}
-use Rattle.std.proofs.Common.{sym, ap, ap₂, ◌∙◌, subst}
-use Rattle.std.proofs.lemmas.Bool.{and_right, false≢true}
+use Rattle.std.proofs.Common.{sym, ap, ap₂, ◌∙◌}
+use Rattle.std.proofs.lemmas.Bool.{false≢true}
 use Rattle.levels.specs.Order.{Order, Laws}
-use Rattle.levels.specs.Either.{in_left, in_right, passes, compare_both, given, combine_both, widened, chosen}
+use Rattle.levels.specs.Either.{in_left, in_right, passes, compare_both, combine_both, widened, chosen}
 use Rattle.levels.specs.declared.either.Either.{Either}
 use Rattle.levels.specs.declared.either.Either.TheVariants.{Left, Right}
 

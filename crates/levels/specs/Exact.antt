@@ -1,10 +1,9 @@
 -- The search for mistakes finds none just where the marks are a lattice, and they are one lattice only. Assumes nothing.
 use Rattle.std.specs.Prelude.{◌≡◌, ℕ, ◌<◌, Bool, true, false, not, ◌&&◌, ◌||◌, List, length, is_some, Decides, nat_lt, refl}
-use Rattle.std.proofs.Common.{sym, ap, ap₂, ◌∙◌, ⊎_elim}
-use Rattle.std.proofs.lemmas.Bool.{and_parts, and_from, and_left, and_right, eq-eqb, ltb-true, lt-ltb, not_from_true, not_from_false, cases_Bool}
-use Rattle.levels.specs.Order.{Order, Laws, Same}
-use Rattle.levels.specs.Scan.{every, lowest}
-use Rattle.levels.specs.Marks.{marked, toward, past_both, follows, is_bound, bound, unmarked, mutual_marks, broken_chain, no_bound, some_level, well_shaped, is_lattice}
+use Rattle.std.proofs.Common.{sym, ap, ◌∙◌}
+use Rattle.std.proofs.lemmas.Bool.{and_parts, and_from, eq-eqb, ltb-true, lt-ltb, not_from_true, not_from_false}
+use Rattle.levels.specs.Order.{Order}
+use Rattle.levels.specs.Marks.{marked, past_both, follows, is_bound, bound, unmarked, mutual_marks, broken_chain, no_bound, some_level, well_shaped, is_lattice}
 use Rattle.levels.specs.Tables.{rank, ranks, OfMarks, MarksALattice, MeansTheMarks}
 use Rattle.levels.specs.declared.table.Rank.{Rank}
 use Rattle.levels.specs.Scans.{every_from, lowest_some, nowhere_from}

@@ -1,5 +1,5 @@
 -- Worked examples of order tables. Assumes nothing.
-use Rattle.std.specs.Prelude.{◌≡◌, ℕ, List, [], ◌∷◌, Ok, Err}
+use Rattle.std.specs.Prelude.{◌≡◌, [], ◌∷◌, Ok, Err}
 use Rattle.levels.specs.Refusals.{broken}
 use Rattle.levels.specs.Tables.{table_verdict}
 use Rattle.levels.specs.declared.refusal.Place.TheVariants.{Whole}

@@ -1,14 +1,12 @@
 -- Marks without a mistake are a lattice. Assumes nothing.
-use Rattle.std.specs.Prelude.{◌≡◌, ℕ, zero, suc, ◌<◌, ◌≤◌, Bool, true, false, not, ◌&&◌, ◌||◌, ◌⊎◌, List, [], length, is_some, Some, None, Option, nat_lt, slice_index, slice_index_or, refl}
-use Rattle.std.proofs.Common.{sym, ap, ap₂, ◌∙◌, ⊎_elim, arith}
+use Rattle.std.specs.Prelude.{◌≡◌, ℕ, zero, suc, ◌<◌, ◌≤◌, Bool, true, false, not, ◌&&◌, ◌||◌, List, [], length, is_some, Some, None, Option, nat_lt, slice_index, slice_index_or, refl}
+use Rattle.std.proofs.Common.{sym, ap, ◌∙◌, ⊎_elim, arith}
 use Rattle.std.specs.Option.{unwrap_or}
 use Rattle.std.proofs.lemmas.Bool.{and_parts, and_from, and_cases, and_left, and_right, not-true, not-false, both_ways, eqb-true, ltb-true, lt-ltb, false≢true}
-use Rattle.levels.specs.Order.{Order, Laws}
-use Rattle.levels.specs.Scan.{every, lowest}
+use Rattle.levels.specs.Order.{Laws}
 use Rattle.levels.specs.Marks.{marked, toward, past_both, follows, is_bound, bound, is_end, end, unmarked, mutual_marks, broken_chain, no_bound, some_level, is_lattice}
 use Rattle.levels.specs.Bounds.{HoldsBounds}
 use Rattle.levels.specs.Tables.{rank, ranks}
-use Rattle.levels.specs.declared.table.Rank.{Rank}
 use Rattle.levels.specs.Scans.{every_at, every_from, lowest_passes, lowest_below, lowest_some, lowest_none, nowhere, last_or_before}
 
 implied : (x y : Bool) → (not x || y) ≡ true → x ≡ true → y ≡ true

@@ -1,5 +1,5 @@
 -- The lattice of an order table, and which tables are refused. Assumes nothing.
-use Rattle.std.specs.Prelude.{◌≡◌, ℕ, Bool, true, false, cond, List, length, take, Ok, Err, Result, nat_lt}
+use Rattle.std.specs.Prelude.{◌≡◌, ℕ, true, false, cond, List, length, take, Ok, Err, Result, nat_lt}
 use Rattle.std.specs.Option.{unwrap_or}
 use Rattle.levels.specs.Order.{Order, Laws, Same}
 use Rattle.levels.specs.Marks.{marked, bound, end, well_shaped, is_lattice}

@@ -1,10 +1,10 @@
 -- The sets within a mask are a lattice under inclusion. Assumes nothing.
-use Rattle.std.specs.Prelude.{◌≡◌, ℕ, Bool, true, false, cond, ◌&&◌, bit_and, bit_or}
+use Rattle.std.specs.Prelude.{◌≡◌, ℕ, true, ◌&&◌, bit_and, bit_or}
 use Rattle.std.proofs.Math.Path.{refl, ap}
 use Rattle.std.proofs.Common.{sym, ◌∙◌}
-use Rattle.std.specs.Int.Bits.{and_comm, and_self, and_zero_l}
+use Rattle.std.specs.Int.Bits.{and_comm, and_self}
 use Rattle.std.proofs.lemmas.Bool.{eqb-true, eq-eqb, and_parts, and_from, cond-true, cond-false}
-use Rattle.levels.specs.Order.{Order, Laws}
+use Rattle.levels.specs.Order.{Laws}
 use Rattle.levels.specs.Tags.{included, set_of, subsets}
 use Rattle.levels.specs.declared.tags.TagSet.{TagSet}
 use Rattle.levels.specs.BitSets.{within_trans, or_within, absorb, within_or_right, and_within_left, and_within_right, within_and}

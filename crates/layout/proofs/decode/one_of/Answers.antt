@@ -1,4 +1,3 @@
-use Rattle.std.proofs.Common.{◌∙◌}
 use Rattle.layout.specs.Decoding.{node_of}
 use Rattle.layout.proofs.decode.one_of.Goals as goal
 
@@ -8,8 +7,8 @@ returns-in-Some c = rw (← c.in-Some.ensures)
 
 pub returns-in-Some-command : goal.returns-in-Some-command
 unfolding node_of
-returns-in-Some-command c = rw (← c.in-default.ensures, ← c.in-Some-command.ensures)
+returns-in-Some-command c = rw (← c.in_default.ensures, ← c.in-Some-command.ensures)
 
 pub returns : goal.returns
 unfolding node_of
-returns c = rw (← c.in-default.ensures, ← c.in-default-command.ensures) c.argument.ensures
+returns c = rw (← c.in_default.ensures, ← c.in_default-command.ensures) c.argument.ensures

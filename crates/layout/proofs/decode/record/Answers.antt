@@ -10,4 +10,4 @@ made xs g ea ep es ee eb et = rw (ea, ep, es, ee, eb, et)
 pub returns : goal.returns
 returns c =
     let size : (24 * c.args.g + 24) - (24 * c.args.g + 8) ≡ 16 = omega arith in
-    made c.args.list.now c.args.g c.byte.ensures c.byte-2.ensures c.byte-3.ensures c.byte-4.ensures c.word.ensures (c.copy-from-slice.ensures.after ∙ ap (λ n. take n (drop (24 * c.args.g + 8) c.args.list.now)) size)
+    made c.args.list.now c.args.g c.byte.ensures c.byte-2.ensures c.byte-3.ensures c.byte-4.ensures c.word.ensures (c.copy_from_slice.ensures.after ∙ ap (λ n. take n (drop (24 * c.args.g + 8) c.args.list.now)) size)

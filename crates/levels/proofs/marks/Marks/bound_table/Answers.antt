@@ -1,4 +1,4 @@
-use Rattle.std.proofs.Common.{ℕ, ◌<◌, ◌≢◌, [], length, sym, subst, arith, length-set, get_or-set_other, get_or-set_same, rules, below_more}
+use Rattle.std.proofs.Common.{◌<◌, ◌≢◌, [], length, sym, subst, arith, length-set, get_or-set_other, get_or-set_same, below_more}
 use Rattle.levels.specs.Bounds.{HoldsRow}
 use Rattle.levels.proofs.marks.Marks.bound_table.Goals as goal
 

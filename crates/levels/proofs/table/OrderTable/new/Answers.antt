@@ -5,11 +5,11 @@ use Rattle.levels.specs.Tables.{ranks, rows_of, MeansTheMarks}
 use Rattle.levels.specs.Exact.{exact, means_the_marks}
 use Rattle.levels.proofs.table.OrderTable.new.Goals as goal
 
-pub returns-then-not-is-lattice : goal.returns-then-not-is-lattice
-returns-then-not-is-lattice c =
+pub returns-then-not-is_lattice : goal.returns-then-not-is_lattice
+returns-then-not-is_lattice c =
     let rows = c.args.rows.now in
-    let bad : false ≡ is_lattice rows = c.if-not-is-lattice.ensures ∙ ap is_lattice c.new-marks.ensures in
-    let shaped : well_shaped rows ≡ true = sym c.if-not-well-shaped.ensures in record {
+    let bad : false ≡ is_lattice rows = c.if-not-is_lattice.ensures ∙ ap is_lattice c.new-marks.ensures in
+    let shaped : well_shaped rows ≡ true = sym c.if-not-well_shaped.ensures in record {
       answer = search rules;
       exactly = (λ z. absurd (false≢true z), λ p. bad ∙ (exact rows shaped).1 p.1);
       means = tt;

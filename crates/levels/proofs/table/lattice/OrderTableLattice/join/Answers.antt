@@ -1,14 +1,14 @@
-use Rattle.std.proofs.Common.{true, false, sym, ◌∙◌}
+use Rattle.std.proofs.Common.{true, sym, ◌∙◌}
 use Rattle.levels.specs.Tables.{rows_of}
 use Rattle.levels.specs.RankLaws.{held_bound, off_bound}
 use Rattle.levels.proofs.table.lattice.OrderTableLattice.join.Goals as goal
 
-pub returns-then-are-levels : goal.returns-then-are-levels
-returns-then-are-levels c =
+pub returns-then-are_levels : goal.returns-then-are_levels
+returns-then-are_levels c =
     let t = c.args.self.now in
-    held_bound (rows_of t) t.lattice true _ _ _ _ t.joined (sym c.if-are-levels.ensures)
+    held_bound (rows_of t) t.lattice true _ _ _ _ t.joined (sym c.if-are_levels.ensures)
 
-pub returns-else-are-levels : goal.returns-else-are-levels
-returns-else-are-levels c =
+pub returns-else-are_levels : goal.returns-else-are_levels
+returns-else-are_levels c =
     let t = c.args.self.now in
-    c.lowest.ensures ∙ off_bound (rows_of t) true _ _ _ (sym c.if-are-levels.ensures)
+    c.lowest.ensures ∙ off_bound (rows_of t) true _ _ _ (sym c.if-are_levels.ensures)
