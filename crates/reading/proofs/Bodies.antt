@@ -1,11 +1,11 @@
 -- Where functions lie: bodies rise, the last ends with the nodes, and each node has one owner.
-use Rattle.std.proofs.Common.{◌≡◌, ℕ, zero, suc, ◌+◌, ◌-◌, ◌<◌, ◌≤◌, Bool, true, false, cond, not, ◌&&◌, ◌||◌, eqb, ltb, leb, List, length, is_some, Some, None, Option, unwrap_or, sym, refl, ap, ◌∙◌, ⊎_elim, arith}
+use Rattle.std.proofs.Common.{◌≡◌, ℕ, zero, suc, ◌+◌, ◌-◌, ◌<◌, ◌≤◌, true, false, not, ◌||◌, eqb, ltb, leb, List, length, is_some, Some, None, Option, unwrap_or, refl, ap, ◌∙◌, ⊎_elim, arith}
 use Rattle.std.proofs.lemmas.Bool.{and_parts, or_cases, not-false, not-true, not_from_true, both_ways, ltb-true, leb-true, le-leb, lt-leb, eqb-true, eqb-false, ne_eqb, cond-false}
 use Rattle.levels.specs.Scan.{lowest}
 use Rattle.levels.specs.Scans.{lowest_found}
 use Rattle.layout.specs.Code.{Code, function, body, start, owner}
 use Rattle.layout.specs.Decoding.{function_at}
-use Rattle.reading.specs.RecordRule.{last_function, placed, record_broken}
+use Rattle.reading.specs.RecordRule.{last_function, record_broken}
 use Rattle.reading.specs.Sound.{FewFunctions, Placed}
 use Rattle.reading.proofs.Lowests.{lowest_all, lowest_is, lowest_inside, lowest_absent}
 

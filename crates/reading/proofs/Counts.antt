@@ -1,5 +1,5 @@
 -- How often nodes are named.
-use Rattle.std.proofs.Common.{◌≡◌, ℕ, zero, suc, ◌+◌, ◌*◌, ◌<◌, ◌≤◌, Bool, true, false, cond, eqb, Some, None, Option, sym, refl, ap, ◌∙◌, add-one, arith}
+use Rattle.std.proofs.Common.{◌≡◌, ℕ, zero, suc, ◌+◌, ◌*◌, ◌≤◌, Bool, true, false, cond, eqb, Some, None, Option, refl, ap, add-one, arith}
 use Rattle.layout.specs.declared.parts.Part.{Part}
 use Rattle.layout.specs.Code.{Code, node}
 use Rattle.layout.specs.Tree.{parts, target, hit, times, namings}

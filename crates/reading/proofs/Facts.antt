@@ -1,5 +1,5 @@
 -- What a program that was read has, in plain numbers. For the layers above.
-use Rattle.std.proofs.Common.{◌≡◌, ℕ, zero, suc, ◌+◌, ◌-◌, ◌<◌, ◌≤◌, Bool, true, false, not, ◌&&◌, ◌||◌, eqb, ltb, leb, length, Some, None, Option, sym, refl, ap, ◌∙◌, subst, ⊎_elim, arith}
+use Rattle.std.proofs.Common.{◌≡◌, ℕ, ◌<◌, ◌≤◌, Bool, true, false, not, ◌&&◌, ltb, leb, length, Some, Option, sym, ap, ◌∙◌, subst, ⊎_elim, arith}
 use Rattle.std.proofs.lemmas.Bool.{and_parts, and_from, or_cases, not-false, not-true, not_from_false, both_ways, ltb-true, lt-ltb, leb-true, leb-false, false≢true, eqb-false, cases_Bool}
 use Rattle.layout.specs.declared.parts.Part.{Part}
 use Rattle.layout.specs.declared.parts.Part.TheVariants.{Absent, Expression as OfExpression, Command as OfCommand, Argument as OfArgument}
@@ -10,9 +10,9 @@ use Rattle.layout.specs.declared.node.Command.{Command}
 use Rattle.layout.specs.declared.node.Command.TheVariants.{Call}
 use Rattle.layout.specs.Code.{Code, node, function, body, start, owner, is_expression, is_command, is_argument, as_expression, as_command}
 use Rattle.layout.specs.Tree.{parts, slot_of}
-use Rattle.reading.specs.CodeRule.{past, slot_broken}
-use Rattle.reading.specs.NamingRule.{lies, part_fits, all_fit, is_body, ends_well, naming_broken}
-use Rattle.reading.specs.CallRule.{chained, calls_well, call_broken}
+use Rattle.reading.specs.CodeRule.{past}
+use Rattle.reading.specs.NamingRule.{lies, part_fits, all_fit, is_body, ends_well}
+use Rattle.reading.specs.CallRule.{chained, calls_well}
 use Rattle.reading.specs.ScopeRule.{scoped, scope_broken}
 use Rattle.reading.specs.Sound.{FewFunctions, SlotsFit, SlotsThere, NamesFit, CallsFit, InScope}
 use Rattle.reading.proofs.Bodies.{owner_inside}

@@ -1,5 +1,5 @@
 -- The verdict from the six searches.
-use Rattle.std.proofs.Common.{◌≡◌, ℕ, List, length, Some, None, Option, sym, refl, ap, ◌∙◌}
+use Rattle.std.proofs.Common.{◌≡◌, ℕ, List, length, Some, None, Option}
 use Rattle.levels.specs.Scan.{lowest, or_else}
 use Rattle.levels.specs.declared.refusal.Refusal.{Refusal}
 use Rattle.layout.specs.Code.{Code}

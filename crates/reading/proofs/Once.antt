@@ -1,12 +1,11 @@
 -- Each node is named by one other at most.
-use Rattle.std.proofs.Common.{◌≡◌, ℕ, zero, suc, ◌+◌, ◌-◌, ◌<◌, ◌≤◌, Bool, true, false, cond, not, ◌&&◌, eqb, ltb, leb, ◌⊎◌, length, Some, None, Option, unwrap_or, sym, refl, ap, ◌∙◌, subst, inl, inr, ⊎_elim, arith}
-use Rattle.std.proofs.lemmas.Bool.{and_parts, and_from, not-false, not_from_false, both_ways, ltb-true, lt-ltb, le-leb, leb-true, eqb-true, ne_eqb, cases_eq, cases_lt, cases_order, cases_Bool, cond-true, cond-false, false≢true}
+use Rattle.std.proofs.Common.{◌≡◌, ℕ, zero, suc, ◌+◌, ◌<◌, ◌≤◌, true, false, eqb, length, Some, sym, refl, ⊎_elim, arith}
+use Rattle.std.proofs.lemmas.Bool.{and_from, not_from_false, both_ways, lt-ltb, eqb-true, ne_eqb, cases_eq, cases_lt, cases_order, cases_Bool, cond-false}
 use Rattle.layout.specs.declared.parts.Part.{Part}
 use Rattle.layout.specs.declared.parts.Part.TheVariants.{Absent, Expression as OfExpression, Command as OfCommand, Argument as OfArgument}
 use Rattle.layout.specs.Code.{Code, node, body, start, owner}
 use Rattle.layout.specs.Tree.{parts, target, hit, times, namings}
-use Rattle.reading.specs.NamingRule.{naming_broken}
-use Rattle.reading.specs.Naming.{OnceBy, NamingsStand}
+use Rattle.reading.specs.Naming.{NamingsStand}
 use Rattle.reading.specs.OnceRule.{once_broken}
 use Rattle.reading.specs.Sound.{FewFunctions, Placed, NamesFit, NamedOnce}
 use Rattle.reading.proofs.Facts.{PartIs, names}

@@ -1,19 +1,18 @@
 -- The computed scopes are those in words.
-use Rattle.std.proofs.Common.{◌≡◌, ℕ, zero, suc, ◌+◌, ◌-◌, ◌*◌, ◌/◌, ◌%◌, ◌^◌, ◌<◌, ◌≤◌, max, Bool, true, false, cond, ◌&&◌, ◌||◌, eqb, ltb, ◌⊎◌, length, Some, None, Option, sym, refl, ap, ◌∙◌, subst, inl, inr, ⊎_elim, mul-div_cancel, arith, pow_pos, pow-add}
+use Rattle.std.proofs.Common.{◌≡◌, ℕ, zero, suc, ◌+◌, ◌-◌, ◌/◌, ◌%◌, ◌^◌, ◌<◌, ◌≤◌, true, false, cond, ◌&&◌, eqb, ltb, ◌⊎◌, length, Some, None, Option, sym, refl, ap, ◌∙◌, subst, inl, inr, ⊎_elim, mul-div_cancel, arith, pow_pos, pow-add}
 use native.Mathlib.Nat.{div-eq_of_lt, div_self, mul-mod_left}
 use lib.Bits.{bit_or}
 use lib.Pow.{pow-lt}
 use Rattle.std.proofs.lemmas.Nat.{or_shr, or_mod}
-use Rattle.std.proofs.lemmas.Bool.{and_parts, and_from, eqb-true, eqb-false, eq-eqb, ne_eqb, lt-ltb, ltb-true, ltb-false, cases_Bool, cases_eq, cases_order, cond-true, cond-false, false≢true}
-use Rattle.layout.specs.declared.node.Command.{Command}
+use Rattle.std.proofs.lemmas.Bool.{and_parts, and_from, eqb-true, eq-eqb, lt-ltb, ltb-true, ltb-false, cases_Bool, cases_eq, cases_order, cond-true, cond-false}
 use Rattle.layout.specs.declared.node.Command.TheVariants.{Nothing, SetSlot, SetFigure, If, While, Then, Let, Call, Test}
 use Rattle.layout.specs.declared.node.Node.{Node}
 use Rattle.layout.specs.declared.node.Node.TheVariants.{Expression as Exp, Command as Com, Argument}
 use Rattle.layout.specs.Code.{Code, node}
 use Rattle.layout.specs.Tree.{parts, times}
-use Rattle.reading.specs.ScopeRule.{parent, adding, holds, within_command, within, below_parent, scope}
+use Rattle.reading.specs.ScopeRule.{parent, adding, holds, within, below_parent, scope}
 use Rattle.reading.specs.Opened.{Opened, here, under}
-use Rattle.reading.proofs.Parents.{parent_names, parent_step, parent_none, scope_below}
+use Rattle.reading.proofs.Parents.{parent_names, scope_below}
 
 bit : ℕ → ℕ → ℕ
 bit s a = (s / 2 ^ a) % 2

@@ -1,15 +1,12 @@
 -- Reading what was written gives the program back.
-use Rattle.std.proofs.Common.{◌≡◌, ℕ, zero, suc, ◌+◌, ◌*◌, ◌/◌, ◌%◌, ◌<◌, ◌≤◌, Bool, true, false, cond, not, ◌&&◌, eqb, leb, List, [], ◌∷◌, ◌++◌, length, get_or, take, drop, is_some, Some, None, Ok, Option, unwrap_or, sym, refl, ap, ◌∙◌, subst, ap₂, arith, length-append}
+use Rattle.std.proofs.Common.{◌≡◌, ℕ, suc, ◌+◌, ◌*◌, ◌/◌, ◌%◌, ◌<◌, ◌≤◌, true, not, ◌&&◌, eqb, List, ◌++◌, length, get_or, take, drop, is_some, Some, None, Option, unwrap_or, sym, refl, ap, ◌∙◌, ap₂, arith}
 use Rattle.std.specs.List.{flat_map}
 use Rattle.std.proofs.lemmas.List.FromFn.{fill_by_all}
 use Rattle.std.proofs.lemmas.List.{get_or-drop, drop-drop, take_at}
 use Rattle.std.proofs.lemmas.Bool.{and_from, or_from, not-false, not_from_true, le-leb, eq-eqb, ne_eqb, cond-true, cond-false}
 use Rattle.levels.specs.Scan.{when}
-use Rattle.layout.specs.declared.node.Operator.{Operator}
 use Rattle.layout.specs.declared.node.Operator.TheVariants.{Add, Subtract, Multiply, Divide, Less, Equal}
-use Rattle.layout.specs.declared.node.Expression.{Expression}
 use Rattle.layout.specs.declared.node.Expression.TheVariants.{Constant, Slot, Figure, Operation}
-use Rattle.layout.specs.declared.node.Command.{Command}
 use Rattle.layout.specs.declared.node.Command.TheVariants.{Nothing, SetSlot, SetFigure, If, While, Then, Let, Call, Test}
 use Rattle.layout.specs.declared.node.Node.{Node}
 use Rattle.layout.specs.declared.node.Node.TheVariants.{Expression as Exp, Command as Com, Argument}
@@ -17,12 +14,10 @@ use Rattle.layout.specs.declared.function.Function.{Function}
 use Rattle.layout.specs.Code.{Code, code, node, function, owner, start, no_node, no_function}
 use Rattle.layout.specs.Tree.{parts, next_part}
 use Rattle.layout.specs.Decoding.{byte, word, linked, node_of, has, node_at, record_at, padded, slots_fit, function_at, nodes_of, functions_of, decoded}
-use Rattle.layout.specs.Encoding.{link, operands, eight, node_bytes, function_head, function_bytes, encoded}
+use Rattle.layout.specs.Encoding.{link, operands, node_bytes, function_bytes}
 use Rattle.reading.specs.SizeRule.{counts, sizes_fit}
-use Rattle.reading.specs.RecordRule.{placed, record_broken}
-use Rattle.reading.specs.CodeRule.{slot_broken, code_broken}
-use Rattle.reading.specs.Verdict.{judged, refused, unless, verdict}
-use Rattle.reading.specs.Sound.{Sound, NamesFit}
+use Rattle.reading.specs.Verdict.{judged, refused, unless}
+use Rattle.reading.specs.Sound.{Sound}
 use Rattle.reading.specs.Copies.{ReadsBack}
 use Rattle.reading.proofs.Blocks.{joined_length, joined_drop}
 use Rattle.reading.proofs.Facts.{PartIs, PartsAre, names}

@@ -1,5 +1,5 @@
 -- What bytes that break no rule have shown of their program.
-use Rattle.std.proofs.Common.{◌≡◌, ℕ, ◌+◌, ◌-◌, ◌*◌, ◌/◌, ◌%◌, ◌<◌, ◌≤◌, Bool, true, false, cond, not, ◌&&◌, eqb, leb, List, length, take, drop, is_some, Some, None, Option, unwrap_or, sym, refl, ap, ◌∙◌, subst, ⊎_elim, arith, length-drop}
+use Rattle.std.proofs.Common.{◌≡◌, ℕ, ◌+◌, ◌*◌, ◌/◌, ◌%◌, ◌<◌, ◌≤◌, true, false, not, ◌&&◌, eqb, leb, List, length, drop, is_some, Some, None, Option, unwrap_or, sym, refl, ap, ◌∙◌, ⊎_elim, arith, length-drop}
 use Rattle.std.proofs.lemmas.List.{length-take}
 use Rattle.std.proofs.lemmas.Bool.{not-false, not_from_true, and_parts, or_parts, cases_Bool, cond-true, cond-false, leb-true, eqb-true, false≢true}
 use Rattle.levels.specs.Scan.{lowest, when}
@@ -17,7 +17,7 @@ use Rattle.reading.specs.NamingRule.{naming_broken}
 use Rattle.reading.specs.CallRule.{call_broken}
 use Rattle.reading.specs.OnceRule.{once_broken}
 use Rattle.reading.specs.ScopeRule.{scope_broken}
-use Rattle.reading.specs.Verdict.{judged, refused}
+use Rattle.reading.specs.Verdict.{refused}
 use Rattle.reading.specs.Sound.{FewNodes, FewFunctions, FewApps, SlotsFit, TypesWhole, Placed, SlotsThere, NamesFit, CallsFit, NamedOnce, InScope}
 use Rattle.reading.proofs.Lowests.{lowest_all}
 use Rattle.reading.proofs.Bodies.{placed_from}

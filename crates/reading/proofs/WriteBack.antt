@@ -1,23 +1,19 @@
 -- Writing what was read gives the bytes back.
-use Rattle.std.proofs.Common.{◌≡◌, ℕ, zero, suc, ◌+◌, ◌*◌, ◌/◌, ◌%◌, ◌<◌, ◌≤◌, Bool, true, false, cond, not, ◌&&◌, eqb, leb, List, [], ◌∷◌, ◌++◌, map, length, get_or, take, drop, is_some, Some, None, Ok, Err, Option, Result, unwrap_or, sym, refl, ap, ◌∙◌, subst, ap₂, ⊎_elim, arith, take-add}
-use Rattle.std.specs.List.{range_with_len, flat_map}
+use Rattle.std.proofs.Common.{◌≡◌, ℕ, ◌+◌, ◌*◌, ◌/◌, ◌%◌, ◌<◌, ◌≤◌, Bool, true, false, cond, ◌&&◌, eqb, List, [], ◌∷◌, ◌++◌, length, get_or, take, drop, is_some, Some, None, Ok, Option, Result, unwrap_or, sym, refl, ap, ◌∙◌, ap₂, ⊎_elim, arith, take-add}
+use Rattle.std.specs.List.{flat_map}
 use Rattle.std.specs.Option.{option_map}
 use Rattle.std.proofs.lemmas.List.{drop-drop, take_all}
 use Rattle.std.proofs.lemmas.Bool.{and_parts, eqb-true, leb-true, le-leb, cases_Bool, cond-true, cond-false, false≢true}
 use Rattle.levels.specs.Scan.{when, or_else}
 use Rattle.levels.specs.declared.refusal.Refusal.{Refusal}
 use Rattle.layout.specs.declared.node.Operator.{Operator}
-use Rattle.layout.specs.declared.node.Operator.TheVariants.{Add, Subtract, Multiply, Divide, Less, Equal}
 use Rattle.layout.specs.declared.node.Expression.{Expression}
-use Rattle.layout.specs.declared.node.Expression.TheVariants.{Constant, Slot, Figure, Operation}
 use Rattle.layout.specs.declared.node.Command.{Command}
-use Rattle.layout.specs.declared.node.Command.TheVariants.{Nothing, SetSlot, SetFigure, If, While, Then, Let, Call, Test}
 use Rattle.layout.specs.declared.node.Node.{Node}
-use Rattle.layout.specs.declared.node.Node.TheVariants.{Expression as Exp, Command as Com, Argument}
-use Rattle.layout.specs.declared.function.Function.{Function}
+use Rattle.layout.specs.declared.node.Node.TheVariants.{Expression as Exp, Command as Com}
 use Rattle.layout.specs.Code.{Code, no_node, no_function}
-use Rattle.layout.specs.Decoding.{byte, word, linked, operator_of, operation_of, expression_of, command_of, argument_of, node_of, has, node_at, record_at, padded, slots_fit, function_at, nodes_of, functions_of, decoded}
-use Rattle.layout.specs.Encoding.{link, operator_code, expression_operands, command_operands, operands, eight, node_bytes, function_head, function_bytes, Lists, lists, encoded}
+use Rattle.layout.specs.Decoding.{byte, word, linked, operator_of, operation_of, expression_of, command_of, argument_of, node_of, has, node_at, record_at, padded, function_at, nodes_of, functions_of, decoded}
+use Rattle.layout.specs.Encoding.{link, operator_code, expression_operands, command_operands, operands, eight, node_bytes, function_bytes, lists, encoded}
 use Rattle.reading.specs.Verdict.{refused, unless, verdict}
 use Rattle.reading.specs.Copies.{Bytes}
 use Rattle.reading.proofs.Blocks.{joined_blocks, block_is}

@@ -1,7 +1,7 @@
 -- The writer's two laws: reading what was written gives the program back, and writing what was read gives the bytes back.
 use Rattle.std.specs.Prelude.{◌≡◌, ℕ, ◌<◌, List, length, Ok, slice_index}
 use Rattle.layout.specs.Code.{Code}
-use Rattle.layout.specs.Encoding.{Lists, lists, encoded}
+use Rattle.layout.specs.Encoding.{lists, encoded}
 use Rattle.reading.specs.Sound.{Sound}
 use Rattle.reading.specs.Verdict.{verdict}
 

@@ -1,5 +1,5 @@
 -- What reading has seen of a program, for all who use one.
-use Rattle.std.specs.Prelude.{◌≡◌, ℕ, ◌<◌, ◌≤◌, Bool, false, not, ◌&&◌, length}
+use Rattle.std.specs.Prelude.{◌≡◌, ℕ, ◌<◌, ◌≤◌, Bool, false, not, length}
 use Rattle.layout.specs.Code.{Code, function}
 use Rattle.layout.specs.Decoding.{slots_fit}
 use Rattle.reading.specs.RecordRule.{placed}

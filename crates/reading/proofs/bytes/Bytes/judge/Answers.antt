@@ -7,8 +7,8 @@ use Rattle.reading.proofs.Lowests.{lowest_is, lowest_all}
 use Rattle.reading.proofs.Judging.{judged_some, judged_none}
 use Rattle.reading.proofs.bytes.Bytes.judge.Goals as goal
 
-pub overflow-cast-result : goal.overflow-cast-result
-overflow-cast-result c = omega (arith, (lowest_is _ _ _ (sym c.in-Some.ensures)).within, length_functions c.args.self.functions.now)
+pub overflow_cast-result : goal.overflow_cast-result
+overflow_cast-result c = omega (arith, (lowest_is _ _ _ (sym c.in-Some.ensures)).within, length_functions c.args.self.functions.now)
 
 pub returns-in-Some : goal.returns-in-Some
 returns-in-Some c = judged_some c.args.self.nodes.now c.args.self.functions.now (code_of c.args.self) _ (sym c.in-Some.ensures)

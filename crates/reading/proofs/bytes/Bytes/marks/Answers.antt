@@ -1,7 +1,6 @@
-use Rattle.std.proofs.Common.{◌≡◌, sym, ap, ◌∙◌, arith, rules}
+use Rattle.std.proofs.Common.{sym, ap, ◌∙◌, arith}
 use Rattle.std.proofs.lemmas.List.{get_or-replicate}
-use Rattle.layout.specs.Code.{node}
-use Rattle.layout.specs.Tree.{parts, namings}
+use Rattle.layout.specs.Tree.{parts}
 use Rattle.reading.specs.Meaning.{code_of}
 use Rattle.reading.proofs.Counts.{namings_none, namings_small, namings_more, hit_small}
 use Rattle.reading.proofs.bytes.Bytes.marks.Goals as goal

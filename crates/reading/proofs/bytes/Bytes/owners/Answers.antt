@@ -1,5 +1,4 @@
-use Rattle.std.proofs.Common.{◌≡◌, ℕ, ◌+◌, ◌<◌, ◌≤◌, length, sym, ap, ◌∙◌, arith}
-use Rattle.std.proofs.lemmas.List.{get_or-replicate, length-replicate}
+use Rattle.std.proofs.Common.{◌<◌, length, sym, ap, ◌∙◌, arith}
 use Rattle.layout.specs.Code.{body}
 use Rattle.reading.specs.Meaning.{code_of}
 use Rattle.reading.specs.Sound.{Placed}
@@ -20,7 +19,7 @@ loop-i-preserved c =
     let it = code_of c.args.self.now in
     elim c.if-end-i.branch [
       | then-end-i w ↦
-          (let t = turn_next it records c.loop-i.owners c.loop-i.end c.loop-i.g c.if-end-i.g c.loop-i.i (omega (arith, c.node-count-i-end.ensures.value)) (omega arith) (c.loop-i.invariant.0, c.loop-i.invariant.1) c.loop-i.invariant.2 w.if-end-i.true w.g-is in
+          (let t = turn_next it records c.loop-i.owners c.loop-i.end c.loop-i.g c.if-end-i.g c.loop-i.i (omega (arith, c.node_count-i-end.ensures.value)) (omega arith) (c.loop-i.invariant.0, c.loop-i.invariant.1) c.loop-i.invariant.2 w.if-end-i.true w.g-is in
           (t.0, t.1, w.end-is ∙ (w.body-end-then-end-i.ensures ∙ ap (λ x. body it x) (sym w.g-is))))
       | else-end-i w ↦
           (let t = turn_on it records c.loop-i.owners c.loop-i.end c.loop-i.g c.if-end-i.g c.loop-i.i (omega arith) (c.loop-i.invariant.0, c.loop-i.invariant.1) c.loop-i.invariant.2 w.if-end-i.false w.g-is in
@@ -29,4 +28,4 @@ loop-i-preserved c =
 
 pub returns : goal.returns
 returns c =
-    owned_all (code_of c.args.self.now) (placed_from _ (code_of c.args.self.now) c.requires) c.loop-i.owners c.loop-i.i (omega (arith, c.node-count-i-end.ensures.value)) c.loop-i.invariant.1
+    owned_all (code_of c.args.self.now) (placed_from _ (code_of c.args.self.now) c.requires) c.loop-i.owners c.loop-i.i (omega (arith, c.node_count-i-end.ensures.value)) c.loop-i.invariant.1

@@ -1,4 +1,4 @@
-use Rattle.std.proofs.Common.{◌≡◌, ℕ, ◌-◌, ◌<◌, length, get_or, sym, ap, ◌∙◌, arith, length-set}
+use Rattle.std.proofs.Common.{ℕ, ◌-◌, get_or, sym, ap, ◌∙◌, arith, length-set}
 use Rattle.std.proofs.lemmas.List.{get_or-replicate, length-replicate}
 use Rattle.reading.specs.ScopeRule.{within}
 use Rattle.reading.specs.Meaning.{code_of}
@@ -26,6 +26,6 @@ pub loop-j-preserved : goal.loop-j-preserved
 loop-j-preserved c = (
   c.loop-j.invariant.0,
   filled_none (code_of c.args.self.now) c.requires c.loop-j.scopes c.loop-j.j (c.loop-j.j - 1) (omega arith) (omega arith)
-      (sym (c.parents-parents.ensures (c.loop-j.j - 1) (omega arith)) ∙ c.in-default.is)
+      (sym (c.parents-parents.ensures (c.loop-j.j - 1) (omega arith)) ∙ c.in_default.is)
       c.loop-j.invariant.1,
 )

@@ -1,7 +1,7 @@
 use Rattle.std.proofs.Common.{◌≡◌, ℕ, Bool, not, ◌||◌, List, is_some, Some, Option, unwrap_or, sym, ap, ◌∙◌, ap₂}
 use Rattle.layout.specs.declared.node.Node.{Node}
 use Rattle.layout.specs.declared.function.Function.{Function}
-use Rattle.layout.specs.Code.{Code, no_node, node, function, owner}
+use Rattle.layout.specs.Code.{no_node, node, function, owner}
 use Rattle.layout.specs.Tree.{slot_of}
 use Rattle.layout.specs.Decoding.{node_at, decoded}
 use Rattle.reading.specs.CodeRule.{past, slot_broken, code_broken}

@@ -12,4 +12,4 @@ returns-then-g-lt64 c =
 pub returns-else-g-lt64 : goal.returns-else-g-lt64
 returns-else-g-lt64 c =
     let far : length (functions_of c.args.self.now.bytes.functions.now) ≤ c.args.g = omega (arith, length_functions c.args.self.now.bytes.functions.now) in
-    c.no-function.ensures ∙ sym (get_or_past _ _ _ far)
+    c.no_function.ensures ∙ sym (get_or_past _ _ _ far)

@@ -10,23 +10,23 @@ returns-in-Some c =
 
 pub returns-in-Some-misnamed : goal.returns-in-Some-misnamed
 returns-in-Some-misnamed c =
-    nodes_judged c.args.self.now.bytes.nodes.now (code_of c.args.self.now.bytes) (sym c.in-default.ensures) (sym c.in-Some-misnamed.ensures) refl refl refl
+    nodes_judged c.args.self.now.bytes.nodes.now (code_of c.args.self.now.bytes) (sym c.in_default.ensures) (sym c.in-Some-misnamed.ensures) refl refl refl
 
 pub returns-in-Some-miscalled : goal.returns-in-Some-miscalled
 returns-in-Some-miscalled c =
-    nodes_judged c.args.self.now.bytes.nodes.now (code_of c.args.self.now.bytes) (sym c.in-default.ensures) (sym c.in-default-misnamed.ensures) (sym c.in-Some-miscalled.ensures) refl refl
+    nodes_judged c.args.self.now.bytes.nodes.now (code_of c.args.self.now.bytes) (sym c.in_default.ensures) (sym c.in_default-misnamed.ensures) (sym c.in-Some-miscalled.ensures) refl refl
 
-pub returns-in-Some-not-named-once : goal.returns-in-Some-not-named-once
-returns-in-Some-not-named-once c =
-    nodes_judged c.args.self.now.bytes.nodes.now (code_of c.args.self.now.bytes) (sym c.in-default.ensures) (sym c.in-default-misnamed.ensures) (sym c.in-default-miscalled.ensures) (sym c.in-Some-not-named-once.ensures) refl
+pub returns-in-Some-not_named_once : goal.returns-in-Some-not_named_once
+returns-in-Some-not_named_once c =
+    nodes_judged c.args.self.now.bytes.nodes.now (code_of c.args.self.now.bytes) (sym c.in_default.ensures) (sym c.in_default-misnamed.ensures) (sym c.in_default-miscalled.ensures) (sym c.in-Some-not_named_once.ensures) refl
 
-pub returns-in-Some-out-of-scope : goal.returns-in-Some-out-of-scope
-returns-in-Some-out-of-scope c =
-    nodes_judged c.args.self.now.bytes.nodes.now (code_of c.args.self.now.bytes) (sym c.in-default.ensures) (sym c.in-default-misnamed.ensures) (sym c.in-default-miscalled.ensures) (sym c.in-default-not-named-once.ensures) (sym c.in-Some-out-of-scope.ensures)
+pub returns-in-Some-out_of_scope : goal.returns-in-Some-out_of_scope
+returns-in-Some-out_of_scope c =
+    nodes_judged c.args.self.now.bytes.nodes.now (code_of c.args.self.now.bytes) (sym c.in_default.ensures) (sym c.in_default-misnamed.ensures) (sym c.in_default-miscalled.ensures) (sym c.in_default-not_named_once.ensures) (sym c.in-Some-out_of_scope.ensures)
 
 pub returns-in-None : goal.returns-in-None
 returns-in-None c =
-    nodes_judged c.args.self.now.bytes.nodes.now (code_of c.args.self.now.bytes) (sym c.in-default.ensures) (sym c.in-default-misnamed.ensures) (sym c.in-default-miscalled.ensures) (sym c.in-default-not-named-once.ensures) (sym c.in-None.ensures)
+    nodes_judged c.args.self.now.bytes.nodes.now (code_of c.args.self.now.bytes) (sym c.in_default.ensures) (sym c.in_default-misnamed.ensures) (sym c.in_default-miscalled.ensures) (sym c.in_default-not_named_once.ensures) (sym c.in-None.ensures)
 
-pub out-of-scope-requires : goal.out-of-scope-requires
-out-of-scope-requires c = λ i h. lowest_all _ i _ (sym c.in-default-misnamed.ensures) h
+pub out_of_scope-requires : goal.out_of_scope-requires
+out_of_scope-requires c = λ i h. lowest_all _ i _ (sym c.in_default-misnamed.ensures) h

@@ -7,7 +7,7 @@ use Rattle.reading.proofs.program.Program.written_nodes.Goals as goal
 pub loop-i-preserved : goal.loop-i-preserved
 loop-i-preserved c =
     entry_more node_bytes (vec_items c.args.self.now.nodes) c.loop-i.i no_node _ _ _ (omega arith) c.loop-i.invariant
-    c.in-ok-extend-from-slice.ensures.items (c.node-bytes.ensures ∙ ap node_bytes c.node.ensures)
+    c.in_ok-extend_from_slice.ensures.items (c.node_bytes.ensures ∙ ap node_bytes c.node.ensures)
 
 pub returns : goal.returns
 returns c = entries_all node_bytes (vec_items c.args.self.now.nodes) c.loop-i.i _ (omega arith) c.loop-i.invariant

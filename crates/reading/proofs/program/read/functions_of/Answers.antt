@@ -6,8 +6,8 @@ use Rattle.reading.proofs.program.read.functions_of.Goals as goal
 
 pub loop-g-preserved : goal.loop-g-preserved
 loop-g-preserved c = (
-  decoded_more (λ k. unwrap_or (function_at c.args.bytes.now k) no_function) c.loop-g.g _ _ c.unwrap-or.result c.loop-g.invariant.0 c.push-reserved.ensures.items
-      (c.unwrap-or.ensures ∙ (ap (λ n. unwrap_or c.function.result n) c.no-function.ensures ∙ ap (λ o. unwrap_or o no_function) c.function.ensures)),
+  decoded_more (λ k. unwrap_or (function_at c.args.bytes.now k) no_function) c.loop-g.g _ _ c.unwrap_or.result c.loop-g.invariant.0 c.push_reserved.ensures.items
+      (c.unwrap_or.ensures ∙ (ap (λ n. unwrap_or c.function.result n) c.no_function.ensures ∙ ap (λ o. unwrap_or o no_function) c.function.ensures)),
   omega arith,
   omega arith,
 )

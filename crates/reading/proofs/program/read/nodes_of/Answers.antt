@@ -6,8 +6,8 @@ use Rattle.reading.proofs.program.read.nodes_of.Goals as goal
 
 pub loop-i-preserved : goal.loop-i-preserved
 loop-i-preserved c = (
-  decoded_more (λ k. unwrap_or (node_at c.args.bytes.now k) no_node) c.loop-i.i _ _ c.unwrap-or.result c.loop-i.invariant.0 c.push-reserved.ensures.items
-      (c.unwrap-or.ensures ∙ (ap (λ n. unwrap_or c.node.result n) c.no-node.ensures ∙ ap (λ o. unwrap_or o no_node) c.node.ensures)),
+  decoded_more (λ k. unwrap_or (node_at c.args.bytes.now k) no_node) c.loop-i.i _ _ c.unwrap_or.result c.loop-i.invariant.0 c.push_reserved.ensures.items
+      (c.unwrap_or.ensures ∙ (ap (λ n. unwrap_or c.node.result n) c.no_node.ensures ∙ ap (λ o. unwrap_or o no_node) c.node.ensures)),
   omega arith,
   omega arith,
 )

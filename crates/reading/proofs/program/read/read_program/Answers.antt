@@ -1,5 +1,5 @@
 use Rattle.std.proofs.Common.{◌≡◌, None, vec_items, sym, ap, ◌∙◌, subst, rules}
-use Rattle.layout.specs.Code.{Code, code}
+use Rattle.layout.specs.Code.{code}
 use Rattle.layout.specs.Encoding.{encoded}
 use Rattle.layout.specs.Decoding.{decoded}
 use Rattle.reading.specs.Verdict.{refused}
@@ -8,50 +8,36 @@ use Rattle.reading.proofs.Seen.{few_nodes, few_functions, few_apps, slots_good, 
 use Rattle.reading.proofs.WriteBack.{encoded_back}
 use Rattle.reading.proofs.program.read.read_program.Goals as goal
 
-module _ (c : goal.In-ok-apps) where
-  same : code (vec_items c.in-ok-nodes.nodes) (vec_items c.in-ok-functions.functions) (vec_items c.in-ok-apps.apps) ≡ decoded c.args.nodes.now c.args.functions.now c.args.apps.now
-  same = code_is c.args.nodes.now c.args.functions.now c.args.apps.now _ _ _ c.in-ok-nodes.ensures c.in-ok-functions.ensures c.in-ok-apps.ensures.items
+module _ (c : goal.In_ok-apps) where
+  same : code (vec_items c.in_ok-nodes.nodes) (vec_items c.in_ok-functions.functions) (vec_items c.in_ok-apps.apps) ≡ decoded c.args.nodes.now c.args.functions.now c.args.apps.now
+  same = code_is c.args.nodes.now c.args.functions.now c.args.apps.now _ _ _ c.in_ok-nodes.ensures c.in_ok-functions.ensures c.in_ok-apps.ensures.items
 
   good : refused c.args.nodes.now c.args.functions.now c.args.apps.now ≡ None
-  good = sym c.in-default.ensures
+  good = sym c.in_default.ensures
 
 pub returns : goal.returns
 returns c =
     let n = c.args.nodes.now in
     let g = c.args.functions.now in
     let p = c.args.apps.now in
-    record { answered = search rules; written_back = ap encoded (code_is n g p _ _ _ c.in-ok-nodes.ensures c.in-ok-functions.ensures c.in-ok-apps.ensures.items) ∙ encoded_back n g p c.all-bytes.ensures c.all-bytes-2.ensures (sym c.in-default.ensures) }
+    record { answered = search rules; written_back = ap encoded (code_is n g p _ _ _ c.in_ok-nodes.ensures c.in_ok-functions.ensures c.in_ok-apps.ensures.items) ∙ encoded_back n g p c.all_bytes.ensures c.all_bytes-2.ensures (sym c.in_default.ensures) }
 
-pub invariant-of-result : goal.invariant-of-result
-invariant-of-result c =
+pub invariant_of-result : goal.invariant_of-result
+invariant_of-result c =
     let e = sym (same c) in
     let n = c.args.nodes.now in
     let g = c.args.functions.now in
-    let p = c.args.apps.now in (
-      subst FewNodes e (few_nodes n g p (good c)),
-      (
-        subst FewFunctions e (few_functions n g p (good c)),
-        (
-          subst FewApps e (few_apps n g p (good c)),
-          (
-            subst SlotsFit e (slots_good n g p (good c)),
-            (
-              subst TypesWhole e (types_whole n g p (good c)),
-              (
-                subst Placed e (placed_good n g p (good c)),
-                (
-                  subst SlotsThere e (slots_there n g p (good c)),
-                  (
-                    subst NamesFit e (names_fit n g p (good c)),
-                    (
-                      subst CallsFit e (calls_fit n g p (good c)),
-                      (subst NamedOnce e (named_once n g p (good c)), (subst InScope e (in_scope n g p (good c)), tt)),
-                    ),
-                  ),
-                ),
-              ),
-            ),
-          ),
-        ),
-      ),
-    )
+    let p = c.args.apps.now in
+    record {
+      few_nodes = subst FewNodes e (few_nodes n g p (good c));
+      few_functions = subst FewFunctions e (few_functions n g p (good c));
+      few_apps = subst FewApps e (few_apps n g p (good c));
+      slots_fit = subst SlotsFit e (slots_good n g p (good c));
+      types_whole = subst TypesWhole e (types_whole n g p (good c));
+      placed = subst Placed e (placed_good n g p (good c));
+      slots_there = subst SlotsThere e (slots_there n g p (good c));
+      names_fit = subst NamesFit e (names_fit n g p (good c));
+      calls_fit = subst CallsFit e (calls_fit n g p (good c));
+      named_once = subst NamedOnce e (named_once n g p (good c));
+      in_scope = subst InScope e (in_scope n g p (good c));
+    }
