@@ -6,7 +6,7 @@ use Rattle.std.proofs.lemmas.List.{at_drop_more, at_drop_all, take-take}
 use Rattle.std.proofs.lemmas.Bool.{eq-eqb, ne_eqb, cond-true, cond-false, false≢true}
 use Rattle.scripts.specs.declared.number.Base.TheVariants.{Sixteen}
 use Rattle.scripts.specs.Numbers.{before, each, digit_of, digits_of}
-use Rattle.scripts.specs.Pieces.{onto, pieces_of, other}
+use Rattle.scripts.specs.Pieces.{onto, pieces_of}
 use Rattle.scripts.specs.Hex.{in_pairs, bytes_of, hex_of, Appended}
 use Rattle.scripts.specs.declared.hex.HexFault.TheVariants.{NoDigit, OddCount, Memory}
 use Rattle.scripts.specs.declared.hex.HexFault.{HexFault}

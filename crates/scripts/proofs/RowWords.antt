@@ -1,9 +1,9 @@
 -- The rows of a table as they are gathered word by word. Assumes nothing.
-use Rattle.std.proofs.Common.{◌≡◌, ℕ, ◌<◌, ◌≤◌, true, false, cond, leb, List, [], ◌∷◌, ◌++◌, Some, None, Option, sym, refl, ap, ◌∙◌, append_assoc, append-nil}
+use Rattle.std.proofs.Common.{◌≡◌, ℕ, ◌<◌, ◌≤◌, cond, List, [], ◌∷◌, ◌++◌, Some, None, Option, sym, refl, ap, ◌∙◌, append_assoc, append-nil}
 use Rattle.std.specs.Option.{option_map}
 use Rattle.std.proofs.lemmas.Bool.{le-leb, lt-leb}
 use Rattle.scripts.specs.Numbers.{number_of}
-use Rattle.scripts.specs.Shapes.{Word, row_or_end, row_before, rows_in}
+use Rattle.scripts.specs.Shapes.{Word, row_or_end, rows_in}
 
 -- rows that were gathered, before those that are still to come
 abbrev pub gathered : List ℕ → Option (List ℕ × List Word) → Option (List ℕ × List Word)

@@ -1,6 +1,6 @@
 -- Levels that are given to the draft of a scene. Assumes nothing.
 use Rattle.std.proofs.Common.{◌≡◌, ℕ, List, Some, Ok, Err, Result, refl, ap, ◌∙◌, inl, inr, ⊎_elim}
-use Rattle.scripts.specs.Drafts.{Word, and_then}
+use Rattle.scripts.specs.Drafts.{and_then}
 use Rattle.scripts.specs.Scenes.{Sketch, Scene, Answered, Silent, over_lattice, redrafted}
 use Rattle.scripts.specs.declared.fault.ScriptFault.{ScriptFault}
 

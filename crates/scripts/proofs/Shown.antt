@@ -1,5 +1,5 @@
 -- The lines of a policy, one by one. Assumes nothing.
-use Rattle.std.proofs.Common.{◌≡◌, ℕ, ◌+◌, List, [], ◌++◌, sym, refl, ap, ◌∙◌, append-nil, add-one}
+use Rattle.std.proofs.Common.{◌≡◌, ℕ, ◌+◌, List, ◌++◌, sym, ap, ◌∙◌, append-nil, add-one}
 use Rattle.books.specs.Book.{Book}
 use Rattle.scripts.specs.Policies.{spaced, sets_text, type_line, type_lines, figure_line, figure_lines}
 use Rattle.scripts.proofs.Texts.{more}

@@ -1,5 +1,5 @@
 -- What a script has made so far, and what each command makes of it. Assumes nothing.
-use Rattle.std.specs.Prelude.{◌≡◌, ℕ, ◌+◌, min, Bool, true, false, cond, ◌⊎◌, List, [], ◌∷◌, ◌++◌, is_ok, IfErr, Some, None, Ok, Err, vec_items, codes, decimal, Option, Result, MatchResult}
+use Rattle.std.specs.Prelude.{◌≡◌, ℕ, ◌+◌, min, Bool, true, false, ◌⊎◌, List, [], ◌∷◌, ◌++◌, is_ok, IfErr, Some, None, Ok, Err, vec_items, codes, decimal, Option, Result, MatchResult}
 use Rattle.std.specs.Option.{option_map}
 use Rattle.std.specs.List.{flat_map}
 use Rattle.levels.specs.Refusals.{answer, within_memory, refusal_text}

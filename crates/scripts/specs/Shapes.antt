@@ -1,9 +1,9 @@
 -- LATTICE: the words of a lattice, and what the making of it answers. Assumes nothing.
-use Rattle.std.specs.Prelude.{◌≡◌, ℕ, Bool, cond, ◌⊎◌, List, [], ◌∷◌, Some, None, Ok, Err, codes, Option, Result, MatchResult, nat_le}
+use Rattle.std.specs.Prelude.{◌≡◌, ℕ, cond, ◌⊎◌, List, [], ◌∷◌, Some, None, Ok, Err, codes, Option, Result, MatchResult, nat_le}
 use Rattle.std.specs.Option.{option_map}
 use Rattle.std.specs.Str.{bytes_eq}
 use Rattle.levels.specs.Refusals.{answer}
-use Rattle.levels.specs.Tables.{rows_of, table_refusal, table_verdict}
+use Rattle.levels.specs.Tables.{rows_of, table_verdict}
 use Rattle.levels.specs.declared.either.Either.{Either}
 use Rattle.levels.specs.declared.either.Either.TheVariants.{Left, Right}
 use Rattle.levels.specs.declared.pair.Pair.{Pair}

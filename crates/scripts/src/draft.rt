@@ -4,7 +4,7 @@ ghost use Rattle.std.specs.Prelude.{◌≡◌, [], Some, None};
 use crate::shape::{Shape, ShapeLevel};
 use std::alloc::Global;
 
-mod levels;
+mod given;
 pub mod plan;
 pub mod policy;
 

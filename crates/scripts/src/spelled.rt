@@ -14,7 +14,7 @@ use std::alloc::AllocError;
 
 /// The level that a word writes.
 pub fn level<S: Spelled>(lattice: &S, word: &[u8]) -> Option<S::Value>
-    ensures { result ≡ level_of (spelled lattice.now) word.now }
+    ensures { result ≡ level_of (S.spelled lattice.now) word.now }
 {
     let parts = Parts::read(word)?;
     match lattice.spelled(parts.numbers()) {

@@ -29,9 +29,9 @@ impl Transcript {
 
     /// Adds a text to the end.
     pub fn say<D: Display + Drop>(&mut self, text: D) -> Result<(), AllocError>
-        ensures { OnOk result (IfSome (output text) (λ bytes. said self.new ≡ said self.old ++ bytes)) }
+        ensures { OnOk result (IfSome (D.output text) (λ bytes. said self.new ≡ said self.old ++ bytes)) }
     {
-        let text = text.to_string(self.bytes.allocator())?;
+        let text = text.to_string(*self.bytes.allocator())?;
         self.copy(text.as_bytes())
     }
 

@@ -8,15 +8,15 @@ loop-byte-init c = (omega arith, same_of_digits (counting 0) length _ (λ ds. ze
 pub loop-byte-preserved-then-byte-eq32 : goal.loop-byte-preserved-then-byte-eq32
 loop-byte-preserved-then-byte-eq32 c = (omega arith, sym (at_space (counting c.loop-byte.count) _ _ c.loop-byte-test.true c.if-byte-eq32.true) ∙ c.loop-byte.invariant.1)
 
-pub returns-in-err-digit : goal.returns-in-err-digit
+pub returns-in_err-digit : goal.returns-in_err-digit
 unfolding of_digits
-returns-in-err-digit c = c.from-residual.ensures ∙ sym (at_other (counting c.loop-byte.count) _ _ c.loop-byte-test.true c.if-byte-eq32.false c.in-err-digit.ensures) ∙ c.loop-byte.invariant.1
+returns-in_err-digit c = c.from_residual.ensures ∙ sym (at_other (counting c.loop-byte.count) _ _ c.loop-byte-test.true c.if-byte-eq32.false c.in_err-digit.ensures) ∙ c.loop-byte.invariant.1
 
 pub loop-byte-preserved : goal.loop-byte-preserved
 loop-byte-preserved c = (
   omega arith,
-  same_of_digits (counting (c.loop-byte.count + 1)) (λ ds. counting c.loop-byte.count (c.in-ok-digit.field-0 ∷ ds)) _ (λ ds. omega arith)
-      ∙ sym (at_digit (counting c.loop-byte.count) _ _ c.loop-byte-test.true c.if-byte-eq32.false _ c.in-ok-digit.ensures)
+  same_of_digits (counting (c.loop-byte.count + 1)) (λ ds. counting c.loop-byte.count (c.in_ok-digit.field-0 ∷ ds)) _ (λ ds. omega arith)
+      ∙ sym (at_digit (counting c.loop-byte.count) _ _ c.loop-byte-test.true c.if-byte-eq32.false _ c.in_ok-digit.ensures)
       ∙ c.loop-byte.invariant.1,
 )
 

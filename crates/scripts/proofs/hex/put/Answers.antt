@@ -18,8 +18,8 @@ returns-in-Ok c =
         tt,
         λ ds.
             ap (λ l. l ++ in_pairs ds) after
-            ∙ append_assoc (vec_items c.args.list.now) (c.byte-of.result ∷ []) (in_pairs ds)
-            ∙ ap (λ b. vec_items c.args.list.now ++ (b ∷ in_pairs ds)) c.byte-of.ensures
+            ∙ append_assoc (vec_items c.args.list.now) (c.byte_of.result ∷ []) (in_pairs ds)
+            ∙ ap (λ b. vec_items c.args.list.now ++ (b ∷ in_pairs ds)) c.byte_of.ensures
             ∙ ap (λ h. vec_items c.args.list.now ++ in_pairs (option_to_list h ++ (c.args.low ∷ ds))) (sym c.in-Some.is),
       );
       front = ap (take (vec_len c.args.list.now)) after ∙ take_at (vec_items c.args.list.now) _ _ (sym c.args.list.now.ok.0);

@@ -14,17 +14,17 @@ loop-byte-preserved-then-byte-eq32 c = (
   sym (at_space (pairing (vec_items c.loop-byte.list) c.loop-byte.half) _ _ c.loop-byte-test.true c.if-byte-eq32.true) ∙ c.loop-byte.invariant.2,
 )
 
-pub returns-in-default : goal.returns-in-default
+pub returns-in_default : goal.returns-in_default
 unfolding of_digits
-returns-in-default c = record {
-  bytes = λ some. absurd (none_some _ _ (sym c.loop-byte.invariant.2 ∙ at_other (pairing (vec_items c.loop-byte.list) c.loop-byte.half) _ _ c.loop-byte-test.true c.if-byte-eq32.false c.in-default.ensures) some);
+returns-in_default c = record {
+  bytes = λ some. absurd (none_some _ _ (sym c.loop-byte.invariant.2 ∙ at_other (pairing (vec_items c.loop-byte.list) c.loop-byte.half) _ _ c.loop-byte-test.true c.if-byte-eq32.false c.in_default.ensures) some);
   front = c.loop-byte.invariant.1;
 }
 
-pub returns-in-err-half : goal.returns-in-err-half
-returns-in-err-half c =
-    let told = c.in-err-half.ensures in
-    let p = err_from_is_err_and c.from-residual.result c.from-residual.ensures.1 in
+pub returns-in_err-half : goal.returns-in_err-half
+returns-in_err-half c =
+    let told = c.in_err-half.ensures in
+    let p = err_from_is_err_and c.from_residual.result c.from_residual.ensures.1 in
     record {
       bytes = rw p.1 (λ _. p.2 ∙ told.bytes);
       front = front_more _ _ _ _ _ c.args.list.now.ok.0 c.loop-byte.list.ok.0 c.loop-byte.invariant.1 told.front;
@@ -32,10 +32,10 @@ returns-in-err-half c =
 
 pub loop-byte-preserved : goal.loop-byte-preserved
 loop-byte-preserved c =
-    let told = c.in-ok-half.ensures in (
+    let told = c.in_ok-half.ensures in (
       told.bytes.0,
       front_more _ _ _ _ _ c.args.list.now.ok.0 c.loop-byte.list.ok.0 c.loop-byte.invariant.1 told.front,
-      same_of_digits (pairing (vec_items c.put.new.list) c.in-ok-half.half) (λ ds. pairing (vec_items c.loop-byte.list) c.loop-byte.half (c.in-Some.low ∷ ds)) _ told.bytes.1
+      same_of_digits (pairing (vec_items c.put.new.list) c.in_ok-half.half) (λ ds. pairing (vec_items c.loop-byte.list) c.loop-byte.half (c.in-Some.low ∷ ds)) _ told.bytes.1
           ∙ sym (at_digit (pairing (vec_items c.loop-byte.list) c.loop-byte.half) _ _ c.loop-byte-test.true c.if-byte-eq32.false _ c.in-Some.ensures)
           ∙ c.loop-byte.invariant.2,
     )

@@ -1,9 +1,5 @@
-use Rattle.std.proofs.Common.{◌^◌, ◌++◌, codes, decimal, sym, ap, ◌∙◌}
-use Rattle.std.proofs.lemmas.Result.{IfOk-weaker}
-use Rattle.scripts.specs.Policies.{spaced, sets_text, type_lines, figure_lines}
 use Rattle.scripts.specs.Transcripts.{said}
-use Rattle.scripts.proofs.Texts.{more}
-use Rattle.scripts.proofs.Shown.{sets_none, sets_more, types_none, types_more, figures_none, figures_more}
+use Rattle.scripts.proofs.Shown.{figures_none, figures_more}
 use Rattle.scripts.proofs.policy.say_figures.Goals as goal
 
 pub loop-figure-init : goal.loop-figure-init
@@ -12,4 +8,4 @@ loop-figure-init g c = figures_none g.S.Spelled.text (g.B.TypeBook.meaning c.arg
 pub loop-figure-preserved : goal.loop-figure-preserved
 loop-figure-preserved g c =
     figures_more g.S.Spelled.text (g.B.TypeBook.meaning c.args.book.now) c.loop-figure.figure (said c.args.transcript.now) c.loop-figure.invariant
-    c.in-ok-say-figure.ensures
+    c.in_ok-say_figure.ensures

@@ -1,9 +1,7 @@
-use Rattle.std.proofs.Common.{◌^◌, ◌++◌, codes, decimal, sym, ap, ◌∙◌}
-use Rattle.std.proofs.lemmas.Result.{IfOk-weaker}
-use Rattle.scripts.specs.Policies.{spaced, sets_text, type_lines, figure_lines}
+use Rattle.std.proofs.Common.{◌++◌, ap, ◌∙◌}
+use Rattle.scripts.specs.Policies.{spaced}
 use Rattle.scripts.specs.Transcripts.{said}
-use Rattle.scripts.proofs.Texts.{more}
-use Rattle.scripts.proofs.Shown.{sets_none, sets_more, types_none, types_more, figures_none, figures_more}
+use Rattle.scripts.proofs.Shown.{sets_none, sets_more}
 use Rattle.scripts.proofs.policy.say_sets.Goals as goal
 
 pub loop-set-init : goal.loop-set-init
@@ -14,4 +12,4 @@ loop-set-preserved g c =
     let text = g.S.Spelled.text in
     let b = g.B.TypeBook.meaning c.args.book.now in
     sets_more text b c.args.ty c.loop-set.set (said c.args.transcript.now) c.loop-set.invariant
-    (c.in-ok-say-level.ensures ∙ ap (λ o. said c.loop-set.transcript ++ spaced text o) c.level.ensures)
+    (c.in_ok-say_level.ensures ∙ ap (λ o. said c.loop-set.transcript ++ spaced text o) c.level.ensures)

@@ -7,14 +7,14 @@ use Rattle.scripts.proofs.draft.Draft.say_policy.Goals as goal
 
 pub returns : goal.returns
 returns c =
-    let told = c.in-ok-good.ensures in
+    let told = c.in_ok-good.ensures in
     let d = sketch c.args.self.now in
     record {
       made = (
         told.0,
-        within_memory told.0 Books (plan_verdict c.in-Some.plan c.as-slice.result.now c.as-slice-2.result.now),
+        within_memory told.0 Books (plan_verdict c.in-Some.plan c.as_slice.result.now c.as_slice-2.result.now),
         ap (λ o. over_book o (λ plan. Ok (within_memory told.0 Books (plan_verdict plan d.levels d.figures)))) c.in-Some.is
-            ∙ ap₂ (λ l f. Ok (within_memory told.0 Books (plan_verdict c.in-Some.plan l f))) (sym c.as-slice.ensures.value) (sym c.as-slice-2.ensures.value),
+            ∙ ap₂ (λ l f. Ok (within_memory told.0 Books (plan_verdict c.in-Some.plan l f))) (sym c.as_slice.ensures.value) (sym c.as_slice-2.ensures.value),
         told.1,
         told.2,
       );

@@ -6,11 +6,11 @@ use Rattle.scripts.specs.Transcripts.{said}
 use Rattle.scripts.proofs.Texts.{more}
 use Rattle.scripts.proofs.draft.policy.say_made.Goals as goal
 
-pub returns-in-ok-say-book : goal.returns-in-ok-say-book
-returns-in-ok-say-book g c =
+pub returns-in_ok-say_book-in-Ok : goal.returns-in_ok-say_book-in-Ok
+returns-in_ok-say_book-in-Ok g c =
     let text = g.S.Spelled.text in
     let before = said c.args.transcript.now in (
       ap is_ok (sym c.in-Ok.is),
-      more before (codes "policy: made\n") (book_text text (g.B.TypeBook.meaning c.in-Ok.book)) c.in-ok-say.ensures c.in-ok-say-book.ensures
+      more before (codes "policy: made\n") (book_text text (g.B.TypeBook.meaning c.in-Ok.book)) c.in_ok-say-in-Ok.ensures c.in_ok-say_book-in-Ok.ensures
           ∙ ap (λ m. before ++ policy_text text (answer g.B.TypeBook.meaning book_refusal m)) (sym c.in-Ok.is),
     )

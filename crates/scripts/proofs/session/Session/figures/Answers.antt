@@ -10,6 +10,6 @@ pub returns : goal.returns
 returns c = record {
   made =
       given_to_draft (scene c.args.self.now) _ (ap (option_map sketch) c.in-Some.is) (λ d. given_figures d (words_left c.args.words))
-      c.add-figure-levels.result (sketch c.add-figure-levels.new.self) c.add-figure-levels.ensures;
-  silent = unsaid c.add-figure-levels.result (said c.args.self.now.transcript);
+      c.add_figure_levels.result (sketch c.add_figure_levels.new.self) c.add_figure_levels.ensures;
+  silent = unsaid c.add_figure_levels.result (said c.args.self.now.transcript);
 }

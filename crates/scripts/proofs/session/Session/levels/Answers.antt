@@ -10,6 +10,6 @@ pub returns : goal.returns
 returns c = record {
   made =
       given_to_draft (scene c.args.self.now) _ (ap (option_map sketch) c.in-Some.is) (λ d. given_levels d (words_left c.args.words))
-      c.add-type-levels.result (sketch c.add-type-levels.new.self) c.add-type-levels.ensures;
-  silent = unsaid c.add-type-levels.result (said c.args.self.now.transcript);
+      c.add_type_levels.result (sketch c.add_type_levels.new.self) c.add_type_levels.ensures;
+  silent = unsaid c.add_type_levels.result (said c.args.self.now.transcript);
 }

@@ -9,5 +9,5 @@ returns g c =
     let left = g.A.Spelled.text c.args.value.0 in
     let right = g.B.Spelled.text c.args.value.1 in
     IfOk-weaker c.say-3.result _ _ (λ _ last.
-    more (said c.args.transcript.now) left (codes "/" ++ right) c.in-ok-say.ensures
-    (more (said c.say.new.transcript) (codes "/") right c.in-ok-say-2.ensures last)) c.say-3.ensures
+    more (said c.args.transcript.now) left (codes "/" ++ right) c.in_ok-say.ensures
+    (more (said c.say.new.transcript) (codes "/") right c.in_ok-say-2.ensures last)) c.say-3.ensures

@@ -2,7 +2,7 @@ use Rattle.std.proofs.Common.{◌≡◌, length, vec_items}
 use Rattle.scripts.specs.Spelled.{level_of}
 use Rattle.scripts.specs.Words.{words_left}
 use Rattle.scripts.proofs.Adding.{added}
-use Rattle.scripts.proofs.draft.levels.add_levels.Given as goal
+use Rattle.scripts.proofs.draft.given.add_levels.Given as goal
 
 abbrev pub invariant-loop-word : goal.invariant-loop-word
 invariant-loop-word g l =
