@@ -113,6 +113,6 @@ fn closes(rt: HostRuntime) {
     assert!(rt; ended.is_ok());
     assert_eq!(rt;
         left.bytes(),
-        b"scenario a\nlattice: made\npolicy: made\ntype 0: 0/0/2 0/0/2\nfigure 0: 1/255/3\ndone: 1 scenarios, 1 policies made and 0 refused, 0 programs accepted and 0 refused, 0 runs with a result and 0 cut\n"
+        b"scenario a\nlattice: made\npolicy: made\ntype 0: 0/0/2 0/0/2\nfigure 0: 1/255/3\ndone: 1 scenarios, 1 policies made and 0 refused, 0 programs accepted and 0 refused, 0 runs with a result and 0 cut\n".as_slice()
     );
 }

@@ -66,13 +66,13 @@ fn bytes_in_hexadecimal(rt: HostRuntime) {
     assert_eq!(rt; append_hex(&mut list, b"abc"), Err(HexFault::OddCount));
     assert_eq!(rt; append_hex(&mut list, b"ab 0x"), Err(HexFault::NoDigit));
     assert_eq!(rt; append_hex(&mut list, b""), Ok(()));
-    assert_eq!(rt; list.as_slice(), &[10, 188, 18]);
+    assert_eq!(rt; list.as_slice(), [10, 188, 18].as_slice());
 }
 
 #[test]
 fn numbers_of_a_level(rt: HostRuntime) -> Result<(), Fail> {
     let parts = Parts::read(b"1/0x8/0/07").ok_or("four numbers")?;
-    assert_eq!(rt; parts.numbers(), &[1, 8, 0, 7]);
+    assert_eq!(rt; parts.numbers(), [1, 8, 0, 7].as_slice());
     assert!(rt; Parts::read(b"1/2/3/4/5").is_none());
     assert!(rt; Parts::read(b"1//2").is_none());
     assert!(rt; Parts::read(b"/").is_none());
