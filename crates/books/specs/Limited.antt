@@ -19,7 +19,7 @@ guarded : {L : Type 0} (b : Bool) (o : Option L) → (b ≡ true → is_some o �
 guarded true o h = h refl
 guarded false o h = refl
 
--- the parts of `within-limits`
+-- the parts of `within_limits`
 record Within (n types figures : ℕ) : Type 0 where
   pub permissions : n ≤ 6
   pub some : 1 ≤ types

@@ -1,4 +1,4 @@
--- The laws of sets kept in bits that lib.Bits lacks: each by the binary digits. Assumes nothing.
+-- The laws of sets kept in bits that the library lacks: each by the binary digits. Assumes nothing.
 use Rattle.std.specs.Prelude.{◌≡◌, ℕ, zero, suc, ◌+◌, ◌*◌, ◌/◌, ◌%◌, ◌<◌, refl}
 use Rattle.std.proofs.Common.{sym, ap, ap₂, ◌∙◌, div-add-mod', mod-lt, not-suc-le-zero, le_of_suc-le-suc, zero-lt-suc}
 use Rattle.std.proofs.Math.Arith.{bin_ind}
