@@ -1,14 +1,26 @@
 //! The book that is given one level a type, for every set.
-ghost use Rattle.std.specs.Prelude.{◌≡◌, true, length};
-ghost use Rattle.books.specs.Lists.{fixed_fits};
+ghost use Rattle.books.specs.Places.{fixed};
+ghost use Rattle.books.specs.Limited.{fixed_in_list};
 
-pub mod make;
+use crate::arrangement::Arrangement;
+use crate::list::ListBook;
+
+/// One level a type.
+pub struct Fixed;
 
 /// One level a type, and a level for each figure.
-#[derive(Drop)]
-pub struct FixedBook<L> {
-    permissions: u8,
-    levels: Vec<L>,
-    figures: Vec<L>,
-    ghost fit: { fixed_fits permissions (length levels.items) (length figures.items) (length levels.items) (length figures.items) ≡ true },
+pub type FixedBook<L> = ListBook<L, Fixed>;
+
+impl Arrangement for Fixed {
+    ghost places = { fixed };
+
+    ghost in_list = { fixed_in_list };
+
+    fn length(_sets: u8, types: u16) -> usize {
+        types as usize
+    }
+
+    fn place(_sets: u8, ty: u8, _set: u8) -> usize {
+        ty as usize
+    }
 }

@@ -2,13 +2,14 @@
 #![tactic(auto)]
 
 ghost use Rattle.std.specs.Prelude.{◌≡◌};
-ghost use Rattle.std.specs.List.{slice_get};
 ghost use Rattle.books.specs.Book.{Book, Limits};
-ghost use Rattle.books.specs.Lists.{within_limits};
 
+pub mod arrangement;
 pub mod fault;
 pub mod fixed;
 pub mod lent;
+pub mod list;
+pub mod numbers;
 pub mod row;
 
 /// A book of types. With n permissions a permission set is a number below 2^n whose bit j stands for permission j.
@@ -18,9 +19,6 @@ pub trait TypeBook {
 
     // The numbers and the levels, unchanged by questions.
     ghost meaning: { Self → Book Self.Level };
-
-    // The numbers keep their limits, and beyond them a level is absent.
-    ghost limited: { (s : Self) → Limits (meaning s) };
 
     fn permissions(&self) -> u8
         ensures { result ≡ (meaning self.now).permissions };
@@ -38,17 +36,7 @@ pub trait TypeBook {
     /// The level of a figure.
     fn figure_level(&self, figure: u8) -> Option<Self::Level>
         ensures { result ≡ (meaning self.now).figure figure };
-}
 
-// What stands at a place of a list, if anything does.
-fn at<T: Copy>(list: &[T], i: usize) -> Option<T>
-    ensures { result ≡ slice_get list.now i }
-{
-    if i < list.len() { Some(list[i]) } else { None }
-}
-
-fn within_limits(permissions: u32, types: u32, figures: u32) -> bool
-    ensures { result ≡ within_limits permissions types figures }
-{
-    permissions <= 6 && (1 <= types && types <= 256) && figures <= 32
+    // The numbers keep their limits, and beyond them a level is absent.
+    ghost limited: { (s : Self) → Limits (meaning s) };
 }

@@ -8,6 +8,8 @@ use Rattle.layout.specs.declared.node.Command.{Command}
 use Rattle.layout.specs.declared.node.Command.TheVariants.{Nothing}
 use Rattle.layout.specs.declared.node.Node.{Node}
 use Rattle.layout.specs.declared.node.Node.TheVariants.{Expression as Exp, Command as Com, Argument}
+use Rattle.layout.specs.declared.parts.Sort.{Sort}
+use Rattle.layout.specs.declared.parts.Sort.TheVariants.{Expression as OfExpression, Command as OfCommand, Argument as OfArgument}
 use Rattle.layout.specs.declared.function.Function.{Function}
 
 pub record Code : Type 0 where
@@ -43,21 +45,20 @@ start c g = cond (g == 0) 0 (body c (g - 1) + 1)
 unfoldable pub owner : Code → ℕ → ℕ
 owner c i = unwrap_or (lowest (length c.functions) (λ g. nat_le i (body c g))) 0
 
--- the three sorts of nodes
-abbrev pub is_expression : Node → Bool
-is_expression (Exp e) = true
-is_expression (Com e) = false
-is_expression (Argument b o) = false
+-- of which sort a node is
+abbrev pub sort : Node → Sort
+sort (Exp e) = OfExpression
+sort (Com e) = OfCommand
+sort (Argument b o) = OfArgument
 
-abbrev pub is_command : Node → Bool
-is_command (Exp e) = false
-is_command (Com e) = true
-is_command (Argument b o) = false
+abbrev pub same_sort : Sort → Sort → Bool
+same_sort OfExpression OfExpression = true
+same_sort OfCommand OfCommand = true
+same_sort OfArgument OfArgument = true
+same_sort s t = false
 
-abbrev pub is_argument : Node → Bool
-is_argument (Exp e) = false
-is_argument (Com e) = false
-is_argument (Argument b o) = true
+abbrev pub is_a : Sort → Node → Bool
+is_a s n = same_sort (sort n) s
 
 -- the expression or the command that a number names, where a node of that sort is due
 abbrev pub as_expression : Node → Expression

@@ -1,8 +1,9 @@
 -- The byte layout: how eight bytes are a node, twenty-four a function, and three byte lists a program.
 use Rattle.std.specs.Prelude.{ℕ, ◌+◌, ◌*◌, ◌/◌, Bool, cond, ◌&&◌, ◌||◌, List, map, length, take, drop, Some, None, Option, ◌==◌, nat_le, nat_lt, slice_index}
 use Rattle.std.specs.List.{range_with_len}
-use Rattle.std.specs.Option.{option_map, unwrap_or}
-use Rattle.levels.specs.Scan.{every, when, or_else}
+use Rattle.std.specs.Bool.{then_some}
+use Rattle.std.specs.Option.{option_map, option_or, unwrap_or}
+use Rattle.levels.specs.Scan.{every}
 use Rattle.layout.specs.declared.node.Operator.{Operator}
 use Rattle.layout.specs.declared.node.Operator.TheVariants.{Add, Subtract, Multiply, Divide, Less, Equal}
 use Rattle.layout.specs.declared.node.Expression.{Expression}
@@ -11,6 +12,7 @@ use Rattle.layout.specs.declared.node.Command.{Command}
 use Rattle.layout.specs.declared.node.Command.TheVariants.{Nothing, SetSlot, SetFigure, If, While, Then, Let, Call, Test}
 use Rattle.layout.specs.declared.node.Node.{Node}
 use Rattle.layout.specs.declared.node.Node.TheVariants.{Expression as Exp, Command as Com, Argument}
+use Rattle.layout.specs.declared.operands.Operands.{Operands}
 use Rattle.layout.specs.declared.function.Function.{Function}
 use Rattle.layout.specs.Code.{Code, code, no_node, no_function}
 
@@ -34,49 +36,55 @@ operator_of code =
     (cond (code == 0x14) (Some Less)
     (cond (code == 0x15) (Some Equal) None)))))
 
-abbrev pub operation_of : Option Operator → ℕ → ℕ → ℕ → ℕ → Option Expression
-operation_of None a b c d = None
-operation_of (Some o) a b c d = when (a == 0 && d == 0) (Operation o b c)
+abbrev pub operation_of : Option Operator → Operands → Option Expression
+operation_of None o = None
+operation_of (Some x) o = then_some (o.a == 0 && o.d == 0) (Operation x o.b o.c)
 
--- a code, and the operands a, b, c and d; an operand that is not used is 0
-abbrev pub expression_of : ℕ → ℕ → ℕ → ℕ → ℕ → Option Expression
-expression_of code a b c d =
-    cond (code == 0x01) (when (a == 0 && b == 0) (Constant (65536 * c + d)))
-    (cond (code == 0x02) (when (b == 0 && (c == 0 && d == 0)) (Slot a))
-    (cond (code == 0x03) (when (b == 0 && (c == 0 && d == 0)) (Figure a))
-    (operation_of (operator_of code) a b c d)))
+-- an operand that is not used is 0
+abbrev pub expression_of : Operands → Option Expression
+expression_of o =
+    cond (o.code == 0x01) (then_some (o.a == 0 && o.b == 0) (Constant (65536 * o.c + o.d)))
+    (cond (o.code == 0x02) (then_some (o.b == 0 && (o.c == 0 && o.d == 0)) (Slot o.a))
+    (cond (o.code == 0x03) (then_some (o.b == 0 && (o.c == 0 && o.d == 0)) (Figure o.a))
+    (operation_of (operator_of o.code) o)))
 
-abbrev pub command_of : ℕ → ℕ → ℕ → ℕ → ℕ → Option Command
-command_of code a b c d =
-    cond (code == 0x20) (when (a == 0 && (b == 0 && (c == 0 && d == 0))) Nothing)
-    (cond (code == 0x21) (when (c == 0 && d == 0) (SetSlot a b))
-    (cond (code == 0x22) (when (c == 0 && d == 0) (SetFigure a b))
-    (cond (code == 0x23) (when (a == 0) (If b c d))
-    (cond (code == 0x24) (when (a == 0 && d == 0) (While b c))
-    (cond (code == 0x25) (when (a == 0 && d == 0) (Then b c))
-    (cond (code == 0x26) (when (d == 0) (Let a b c))
-    (cond (code == 0x27) (when (d == 0) (Call a b (linked c)))
-    (cond (code == 0x28) (when (d == 0) (Test a b c)) None))))))))
+abbrev pub command_of : Operands → Option Command
+command_of o =
+    cond (o.code == 0x20) (then_some (o.a == 0 && (o.b == 0 && (o.c == 0 && o.d == 0))) Nothing)
+    (cond (o.code == 0x21) (then_some (o.c == 0 && o.d == 0) (SetSlot o.a o.b))
+    (cond (o.code == 0x22) (then_some (o.c == 0 && o.d == 0) (SetFigure o.a o.b))
+    (cond (o.code == 0x23) (then_some (o.a == 0) (If o.b o.c o.d))
+    (cond (o.code == 0x24) (then_some (o.a == 0 && o.d == 0) (While o.b o.c))
+    (cond (o.code == 0x25) (then_some (o.a == 0 && o.d == 0) (Then o.b o.c))
+    (cond (o.code == 0x26) (then_some (o.d == 0) (Let o.a o.b o.c))
+    (cond (o.code == 0x27) (then_some (o.d == 0) (Call o.a o.b (linked o.c)))
+    (cond (o.code == 0x28) (then_some (o.d == 0) (Test o.a o.b o.c)) None))))))))
 
-abbrev pub argument_of : ℕ → ℕ → ℕ → ℕ → ℕ → Option Node
-argument_of code a b c d = when (code == 0x30 && (a == 0 && d == 0)) (Argument b (linked c))
+abbrev pub argument_of : Operands → Option Node
+argument_of o = then_some (o.code == 0x30 && (o.a == 0 && o.d == 0)) (Argument o.b (linked o.c))
 
 -- the node of a code and four operands, if there is one
-unfoldable pub node_of : ℕ → ℕ → ℕ → ℕ → ℕ → Option Node
-node_of code a b c d =
-    or_else (option_map Exp (expression_of code a b c d))
-    (or_else (option_map Com (command_of code a b c d)) (argument_of code a b c d))
+unfoldable pub node_of : Operands → Option Node
+node_of o =
+    option_or (option_or (option_map Exp (expression_of o)) (option_map Com (command_of o))) (argument_of o)
 
 -- the bytes reach to the end of entry i, of so many bytes each
 abbrev pub has : ℕ → List ℕ → ℕ → Bool
 has width xs i = nat_le (width * i + width) (length xs)
 
+-- the code and operands at place i
+abbrev pub operands_at : List ℕ → ℕ → Operands
+operands_at xs i = record {
+  code = byte xs (8 * i);
+  a = byte xs (8 * i + 1);
+  b = word xs (8 * i + 2);
+  c = word xs (8 * i + 4);
+  d = word xs (8 * i + 6);
+}
+
 -- the node that the bytes have at place i, if they are there and are one
 unfoldable pub node_at : List ℕ → ℕ → Option Node
-node_at xs i =
-    cond (has 8 xs i)
-    (node_of (byte xs (8 * i)) (byte xs (8 * i + 1)) (word xs (8 * i + 2)) (word xs (8 * i + 4)) (word xs (8 * i + 6)))
-    None
+node_at xs i = cond (has 8 xs i) (node_of (operands_at xs i)) None
 
 -- the numbers that the bytes have at the place of function g
 unfoldable pub record_at : List ℕ → ℕ → Function
@@ -102,13 +110,18 @@ slots_fit f = nat_le f.parameters 8 && (nat_lt f.parameters f.slots && (nat_le f
 
 -- the function that the bytes have at place g, if they are there and keep its layout
 abbrev pub function_at : List ℕ → ℕ → Option Function
-function_at xs g = when (has 24 xs g && (padded xs g && slots_fit (record_at xs g))) (record_at xs g)
+function_at xs g =
+    then_some (has 24 xs g && (padded xs g && slots_fit (record_at xs g))) (record_at xs g)
 
-unfoldable pub nodes_of : List ℕ → List Node
-nodes_of xs = map (λ i. unwrap_or (node_at xs i) no_node) (range_with_len 0 (length xs / 8))
+-- entries of one width stand one after another; what is none is read as absent
+unfoldable pub entries_of : {X : Type 0} → ℕ → (List ℕ → ℕ → Option X) → X → List ℕ → List X
+entries_of width at absent xs = map (λ i. unwrap_or (at xs i) absent) (range_with_len 0 (length xs / width))
 
-unfoldable pub functions_of : List ℕ → List Function
-functions_of xs = map (λ g. unwrap_or (function_at xs g) no_function) (range_with_len 0 (length xs / 24))
+abbrev pub nodes_of : List ℕ → List Node
+nodes_of = entries_of 8 node_at no_node
+
+abbrev pub functions_of : List ℕ → List Function
+functions_of = entries_of 24 function_at no_function
 
 -- what the three byte lists stand for
 abbrev pub decoded : List ℕ → List ℕ → List ℕ → Code

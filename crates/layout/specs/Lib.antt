@@ -2,3 +2,4 @@ pub mod Code
 pub mod Tree
 pub mod Decoding
 pub mod Encoding
+pub mod Ends

@@ -7,35 +7,39 @@ use Rattle.layout.specs.declared.node.Command.TheVariants.{Nothing, SetSlot, Set
 use Rattle.layout.specs.declared.node.Node.{Node}
 use Rattle.layout.specs.declared.node.Node.TheVariants.{Expression as Exp, Command as Com, Argument}
 use Rattle.layout.specs.declared.parts.Part.{Part}
-use Rattle.layout.specs.declared.parts.Part.TheVariants.{Absent, Expression as OfExpression, Command as OfCommand, Argument as OfArgument}
+use Rattle.layout.specs.declared.parts.Sort.{Sort}
+use Rattle.layout.specs.declared.parts.Sort.TheVariants.{Expression as OfExpression, Command as OfCommand, Argument as OfArgument}
 use Rattle.layout.specs.Code.{Code, node}
 
-abbrev pub next_part : Option ℕ → Part
-next_part None = Absent
-next_part (Some b) = OfArgument b
+abbrev pub a_part : Sort → ℕ → Option Part
+a_part s b = Some (record { sort = s; node = b })
+
+abbrev pub next_part : Option ℕ → Option Part
+next_part None = None
+next_part (Some b) = a_part OfArgument b
 
 -- the nodes that a node names, each with the sort that it has to be of
-abbrev pub expression_parts : Expression → Part × Part × Part
-expression_parts (Constant v) = (Absent, Absent, Absent)
-expression_parts (Slot a) = (Absent, Absent, Absent)
-expression_parts (Figure a) = (Absent, Absent, Absent)
-expression_parts (Operation o b c) = (OfExpression b, OfExpression c, Absent)
+abbrev pub expression_parts : Expression → Option Part × Option Part × Option Part
+expression_parts (Constant v) = (None, None, None)
+expression_parts (Slot a) = (None, None, None)
+expression_parts (Figure a) = (None, None, None)
+expression_parts (Operation o b c) = (a_part OfExpression b, a_part OfExpression c, None)
 
-abbrev pub command_parts : Command → Part × Part × Part
-command_parts Nothing = (Absent, Absent, Absent)
-command_parts (SetSlot a b) = (OfExpression b, Absent, Absent)
-command_parts (SetFigure a b) = (OfExpression b, Absent, Absent)
-command_parts (If b c d) = (OfExpression b, OfCommand c, OfCommand d)
-command_parts (While b c) = (OfExpression b, OfCommand c, Absent)
-command_parts (Then b c) = (OfCommand b, OfCommand c, Absent)
-command_parts (Let a b c) = (OfExpression b, OfCommand c, Absent)
-command_parts (Call a g o) = (next_part o, Absent, Absent)
-command_parts (Test a b c) = (OfCommand b, OfCommand c, Absent)
+abbrev pub command_parts : Command → Option Part × Option Part × Option Part
+command_parts Nothing = (None, None, None)
+command_parts (SetSlot a b) = (a_part OfExpression b, None, None)
+command_parts (SetFigure a b) = (a_part OfExpression b, None, None)
+command_parts (If b c d) = (a_part OfExpression b, a_part OfCommand c, a_part OfCommand d)
+command_parts (While b c) = (a_part OfExpression b, a_part OfCommand c, None)
+command_parts (Then b c) = (a_part OfCommand b, a_part OfCommand c, None)
+command_parts (Let a b c) = (a_part OfExpression b, a_part OfCommand c, None)
+command_parts (Call a g o) = (next_part o, None, None)
+command_parts (Test a b c) = (a_part OfCommand b, a_part OfCommand c, None)
 
-abbrev pub parts : Node → Part × Part × Part
+abbrev pub parts : Node → Option Part × Option Part × Option Part
 parts (Exp e) = expression_parts e
 parts (Com e) = command_parts e
-parts (Argument b o) = (OfExpression b, next_part o, Absent)
+parts (Argument b o) = (a_part OfExpression b, next_part o, None)
 
 -- the slot that a node reads, sets, fills or makes usable
 abbrev pub expression_slot : Expression → Option ℕ
@@ -61,18 +65,16 @@ slot_of (Com e) = command_slot e
 slot_of (Argument b o) = None
 
 -- the node that a part is
-abbrev pub target : Part → Option ℕ
-target Absent = None
-target (OfExpression b) = Some b
-target (OfCommand b) = Some b
-target (OfArgument b) = Some b
+abbrev pub target : Option Part → Option ℕ
+target None = None
+target (Some p) = Some p.node
 
 abbrev pub hit : Option ℕ → ℕ → ℕ
 hit None j = 0
 hit (Some b) j = cond (b == j) 1 0
 
 -- how often a node with these parts names node j
-abbrev pub times : Part × Part × Part → ℕ → ℕ
+abbrev pub times : Option Part × Option Part × Option Part → ℕ → ℕ
 times p j = hit (target p.0) j + hit (target p.1) j + hit (target p.2) j
 
 -- how often the nodes below i name node j: the sum over them

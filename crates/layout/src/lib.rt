@@ -2,7 +2,9 @@
 #![tactic(auto)]
 
 pub mod decode;
-pub mod encode;
+pub mod entry;
 pub mod function;
+pub mod lists;
 pub mod node;
+pub mod operands;
 pub mod parts;

@@ -1,86 +1,101 @@
 //! What a node names.
 ghost use Rattle.std.specs.Prelude.{◌≡◌};
-ghost use Rattle.layout.specs.Code.{is_expression, is_command, is_argument};
-ghost use Rattle.layout.specs.Tree.{next_part, expression_parts, command_parts, parts, target};
-ghost use Rattle.layout.specs.Tree.{expression_slot, command_slot, slot_of};
+ghost use Rattle.layout.specs.Code.{sort};
+ghost use Rattle.layout.specs.Tree.{a_part, next_part, expression_parts, command_parts, parts, slot_of};
 
 use crate::node::{Command, Expression, Node};
 
+/// The three sorts of nodes.
+#[derive(Clone, Copy, Debug, PartialEq, Eq)]
+pub enum Sort {
+    Expression,
+    Command,
+    Argument,
+}
+
 /// A node that another one names, by number, and of what sort it has to be.
-#[derive(Clone, Copy)]
-pub enum Part {
-    Absent,
-    Expression(u16),
-    Command(u16),
-    Argument(u16),
+#[derive(Clone, Copy, Debug, PartialEq, Eq)]
+pub struct Part {
+    pub sort: Sort,
+    pub node: u16,
 }
 
 impl Part {
-    pub fn target(self) -> Option<u16>
-        ensures { result ≡ target self }
+    fn new(sort: Sort, node: u16) -> Option<Part>
+        ensures { result ≡ a_part sort node }
     {
-        match self {
-            Part::Absent => None,
-            Part::Expression(b) | Part::Command(b) | Part::Argument(b) => Some(b),
-        }
+        Some(Part { sort, node })
     }
-}
 
-fn next(argument: Option<u16>) -> Part
-    ensures { result ≡ next_part argument }
-{
-    match argument {
-        None => Part::Absent,
-        Some(b) => Part::Argument(b),
+    // The argument after another, or the first of a call.
+    fn argument(next: Option<u16>) -> Option<Part>
+        ensures { result ≡ next_part next }
+    {
+        next.map(|node| Part {
+            sort: Sort::Argument,
+            node,
+        })
     }
 }
 
 impl Command {
-    fn parts(self) -> (Part, Part, Part)
+    fn parts(self) -> (Option<Part>, Option<Part>, Option<Part>)
         ensures { result ≡ command_parts self }
     {
         match self {
-            Command::Nothing => (Part::Absent, Part::Absent, Part::Absent),
+            Command::Nothing => (None, None, None),
             Command::SetSlot { value, .. } | Command::SetFigure { value, .. } => {
-                (Part::Expression(value), Part::Absent, Part::Absent)
+                (Part::new(Sort::Expression, value), None, None)
             }
             Command::If {
                 condition,
                 first,
                 second,
             } => (
-                Part::Expression(condition),
-                Part::Command(first),
-                Part::Command(second),
+                Part::new(Sort::Expression, condition),
+                Part::new(Sort::Command, first),
+                Part::new(Sort::Command, second),
             ),
             Command::While { condition: b, part } | Command::Let { value: b, part, .. } => {
-                (Part::Expression(b), Part::Command(part), Part::Absent)
+                (
+                    Part::new(Sort::Expression, b),
+                    Part::new(Sort::Command, part),
+                    None,
+                )
             }
             Command::Then { first, second } | Command::Test { first, second, .. } => {
-                (Part::Command(first), Part::Command(second), Part::Absent)
+                (
+                    Part::new(Sort::Command, first),
+                    Part::new(Sort::Command, second),
+                    None,
+                )
             }
-            Command::Call { arguments, .. } => (next(arguments), Part::Absent, Part::Absent),
+            Command::Call { arguments, .. } => (Part::argument(arguments), None, None),
         }
     }
 }
 
 impl Node {
-    pub fn parts(self) -> (Part, Part, Part)
+    pub fn parts(self) -> (Option<Part>, Option<Part>, Option<Part>)
         ensures { result ≡ parts self }
     {
         match self {
-            Node::Expression(Expression::Operation(_, b, c)) => (
-                Part::Expression(b),
-                Part::Expression(c),
-                Part::Absent,
-            ),
-            Node::Expression(_) => (Part::Absent, Part::Absent, Part::Absent),
+            Node::Expression(Expression::Operation(_, b, c)) => {
+                (
+                    Part::new(Sort::Expression, b),
+                    Part::new(Sort::Expression, c),
+                    None,
+                )
+            }
+            Node::Expression(_) => (None, None, None),
             Node::Command(e) => e.parts(),
-            Node::Argument { value, next: after } => (
-                Part::Expression(value),
-                next(after),
-                Part::Absent,
-            ),
+            Node::Argument { value, next } => {
+                (
+                    Part::new(Sort::Expression, value),
+                    Part::argument(next),
+                    None,
+                )
+            }
         }
     }
 
@@ -98,21 +113,13 @@ impl Node {
         }
     }
 
-    pub fn is_expression(self) -> bool
-        ensures { result ≡ is_expression self }
+    pub fn sort(self) -> Sort
+        ensures { result ≡ sort self }
     {
-        matches!(self, Node::Expression(_))
-    }
-
-    pub fn is_command(self) -> bool
-        ensures { result ≡ is_command self }
-    {
-        matches!(self, Node::Command(_))
-    }
-
-    pub fn is_argument(self) -> bool
-        ensures { result ≡ is_argument self }
-    {
-        matches!(self, Node::Argument { .. })
+        match self {
+            Node::Expression(_) => Sort::Expression,
+            Node::Command(_) => Sort::Command,
+            Node::Argument { .. } => Sort::Argument,
+        }
     }
 }

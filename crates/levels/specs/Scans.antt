@@ -1,18 +1,17 @@
--- What a loop over the numbers below n has shown, and what `every` and `lowest` tell. Assumes nothing.
-use Rattle.std.specs.Prelude.{◌≡◌, ℕ, zero, suc, ◌+◌, ◌<◌, ◌≤◌, Bool, true, false, cond, ◌⊎◌, is_some, Some, None, Option}
+-- What `every` and `lowest` tell, and what a walk over the numbers below n has shown. Assumes nothing.
+use Rattle.std.specs.Prelude.{◌≡◌, ℕ, zero, suc, ◌<◌, ◌≤◌, Bool, true, false, cond, ◌⊎◌, length, is_some, Some, None, Option, MatchOption}
 use Rattle.std.proofs.Math.Path.{refl, ap, ap₂}
-use Rattle.std.proofs.Common.{sym, ◌∙◌, not-suc-le-zero, add-one}
+use Rattle.std.proofs.lemmas.List.FromFn.{get_or-range_with_len, length-range_with_len}
+use Rattle.std.proofs.Common.{subst, zero-add, sym, ◌∙◌, not-suc-le-zero}
 use Rattle.std.proofs.Math.Logic.{⊎_elim}
 use native.Mathlib.Omega.{arith}
 use Rattle.std.specs.Option.{unwrap_or}
-use Rattle.std.proofs.lemmas.Bool.{and_parts, and_from, and_left, and_right, both_ways, cases_Bool, false≢true, true≢false}
+use Rattle.std.specs.Bool.{MatchBool}
+use Rattle.std.specs.List.{AllWithin, HoldsAt, range_with_len}
+use Rattle.std.proofs.lemmas.Bool.{and_parts, and_from, and_left, and_right, false≢true, true≢false}
 use Rattle.levels.specs.Scan.{every, lowest, or_else, when}
 
 module _ (f : ℕ → Bool) where
-  pub every_more : (i : ℕ) → every i f ≡ true → f i ≡ true → every (i + 1) f ≡ true
-  unfolding every
-  every_more i h here = rw (add-one) (and_from _ _ h here)
-
   pub last_or_before : (i n : ℕ) → i < suc n → (i < n) ⊎ (i ≡ n)
   last_or_before i n h = grind arith
 
@@ -23,16 +22,36 @@ module _ (f : ℕ → Bool) where
       let p = and_parts (every n f) (f n) h in
       ⊎_elim (λ b. every_at n i p.0 b) (λ e. ap f e ∙ p.1) (last_or_before i n k)
 
+  pub every_from : (n : ℕ) → ((i : ℕ) → i < n → f i ≡ true) → every n f ≡ true
+  unfolding every
+  every_from zero h = refl
+  every_from (suc n) h = and_from (every n f) (f n) (every_from n (λ i k. h i (omega arith))) (h n (omega arith))
+
   pub every_broken : (n i : ℕ) → i < n → f i ≡ false → every n f ≡ false
   unfolding every
   every_broken zero i k off = absurd (not-suc-le-zero k)
   every_broken (suc n) i k off =
       ⊎_elim (λ b. and_left (every n f) (f n) (every_broken n i b off)) (λ e. and_right (every n f) (f n) (ap f (sym e) ∙ off)) (last_or_before i n k)
 
-  pub lowest_more : (i : ℕ) → lowest i f ≡ None → f i ≡ false → lowest (i + 1) f ≡ None
+  -- nothing is found exactly where the test fails at each number
+  pub lowest_absent : (n : ℕ) → ((k : ℕ) → k < n → f k ≡ false) → lowest n f ≡ None
   unfolding lowest
-  lowest_more i h here = rw (add-one) (ap₂ or_else h (ap (λ b. cond b (Some i) None) here))
+  lowest_absent zero h = refl
+  lowest_absent (suc n) h = ap₂ or_else (lowest_absent n (λ k b. h k (omega arith))) (ap (λ b. when b n) (h n (omega arith)))
 
+  neither : (n : ℕ) (o : Option ℕ) (b : Bool) → or_else o (when b n) ≡ None → (o ≡ None) × (b ≡ false)
+  neither n None true e = let z : ◌≡◌ {A = ℕ} 0 1 = cc in absurd (omega arith)
+  neither n None false e = (refl, refl)
+  neither n (Some x) b e = let z : ◌≡◌ {A = ℕ} 0 1 = cc in absurd (omega arith)
+
+  pub lowest_all : (n i : ℕ) → lowest n f ≡ None → i < n → f i ≡ false
+  unfolding lowest
+  lowest_all zero i e lt = absurd (not-suc-le-zero lt)
+  lowest_all (suc n) i e lt =
+      let both = neither n (lowest n f) (f n) e in
+      ⊎_elim (λ b. lowest_all n i both.0 b) (λ q. ap f q ∙ both.1) (last_or_before i n lt)
+
+  -- what is found: the test passes there, and at no lower number
   pub lowest_found : (n i : ℕ) → i < n → lowest i f ≡ None → f i ≡ true → lowest n f ≡ Some i
   unfolding lowest
   lowest_found zero i k h here = absurd (not-suc-le-zero k)
@@ -41,72 +60,82 @@ module _ (f : ℕ → Bool) where
       (λ e. ap₂ or_else (ap (λ m. lowest m f) (sym e) ∙ h) (ap (λ m. cond (f m) (Some m) None) (sym e) ∙ ap (λ b. cond b (Some i) None) here))
       (last_or_before i n k)
 
-  -- what `lowest` finds passes, and lies below n
-  pub lowest_passes : (n d : ℕ) → is_some (lowest n f) ≡ true → f (unwrap_or (lowest n f) d) ≡ true
+  pub record Lowest (n i : ℕ) : Type 0 where
+    pub within : i < n
+    pub holds : f i ≡ true
+    pub none_lower : (j : ℕ) → j < i → f j ≡ false
+
+  pub lowest_is : (n i : ℕ) → lowest n f ≡ Some i → Lowest n i
   unfolding lowest
-  lowest_passes zero d h = absurd (false≢true h)
-  lowest_passes (suc n) d h = next (lowest n f) (lowest_passes n d) h
+  lowest_is zero i e = let z : ◌≡◌ {A = ℕ} 0 1 = cc in absurd (omega arith)
+  lowest_is (suc n) i e = go (lowest n f) (f n) refl refl e (λ h. lowest_is n i h)
     where
-      next : (o : Option ℕ) → (is_some o ≡ true → f (unwrap_or o d) ≡ true) → is_some (or_else o (when (f n) n)) ≡ true
-          → f (unwrap_or (or_else o (when (f n) n)) d) ≡ true
-      next (Some x) k g = k refl
-      next None k g = elim (f n) as (λ b. f n ≡ b → is_some (cond b (Some n) None) ≡ true → f (unwrap_or (cond b (Some n) None) d) ≡ true)
-          [ true ↦ (λ e _. e) | false ↦ (λ _ z. absurd (false≢true z)) ] refl g
+      go : (o : Option ℕ) (b : Bool) → lowest n f ≡ o → f n ≡ b → or_else o (when b n) ≡ Some i → (lowest n f ≡ Some i → Lowest n i) → Lowest (suc n) i
+      go None true eo eb h more =
+          let here : n ≡ i = cc in
+          record { within = omega arith; holds = ap f (sym here) ∙ eb; none_lower = λ j lt. lowest_all n j eo (omega arith) }
+      go None false eo eb h more = let z : ◌≡◌ {A = ℕ} 0 1 = cc in absurd (omega arith)
+      go (Some x) b eo eb h more =
+          let below = more (eo ∙ h) in
+          record { within = omega (arith, below.within); holds = below.holds; none_lower = below.none_lower }
+
+  -- the same of the number that stands for what is found
+  found : (n d : ℕ) (P : ℕ → Type 0) → is_some (lowest n f) ≡ true → ((i : ℕ) → Lowest n i → P i) → P (unwrap_or (lowest n f) d)
+  found n d P h each = go (lowest n f) refl h
+    where
+      go : (o : Option ℕ) → lowest n f ≡ o → is_some o ≡ true → P (unwrap_or o d)
+      go None e k = absurd (false≢true k)
+      go (Some i) e k = each i (lowest_is n i e)
+
+  pub lowest_passes : (n d : ℕ) → is_some (lowest n f) ≡ true → f (unwrap_or (lowest n f) d) ≡ true
+  lowest_passes n d h = found n d (λ i. f i ≡ true) h (λ i l. l.holds)
 
   pub lowest_below : (n d : ℕ) → is_some (lowest n f) ≡ true → unwrap_or (lowest n f) d < n
-  unfolding lowest
-  lowest_below zero d h = absurd (false≢true h)
-  lowest_below (suc n) d h = next (lowest n f) (lowest_below n d) h
+  lowest_below n d h = found n d (λ i. i < n) h (λ i l. l.within)
+
+  pub lowest_inside : (n : ℕ) → 0 < n → unwrap_or (lowest n f) 0 < n
+  lowest_inside n h = go (lowest n f) refl
     where
-      next : (o : Option ℕ) → (is_some o ≡ true → unwrap_or o d < n) → is_some (or_else o (when (f n) n)) ≡ true
-          → unwrap_or (or_else o (when (f n) n)) d < suc n
-      next (Some x) k g = let b : x < n = k refl in omega arith
-      next None k g = elim (f n) as (λ b. is_some (cond b (Some n) None) ≡ true → unwrap_or (cond b (Some n) None) d < suc n)
-          [ true ↦ (λ _. omega arith) | false ↦ (λ z. absurd (false≢true z)) ] g
+      go : (o : Option ℕ) → lowest n f ≡ o → unwrap_or o 0 < n
+      go None e = h
+      go (Some i) e = (lowest_is n i e).within
 
   pub lowest_none : (n : ℕ) → ((k : ℕ) → f k ≡ false) → lowest n f ≡ None
-  unfolding lowest
-  lowest_none zero h = refl
-  lowest_none (suc n) h = ap₂ or_else (lowest_none n h) (ap (λ b. cond b (Some n) None) (h n))
-
-  pub every_from : (n : ℕ) → ((i : ℕ) → i < n → f i ≡ true) → every n f ≡ true
-  unfolding every
-  every_from zero h = refl
-  every_from (suc n) h = and_from (every n f) (f n) (every_from n (λ i k. h i (omega arith))) (h n (omega arith))
+  lowest_none n h = lowest_absent n (λ k b. h k)
 
   pub lowest_some : (n i : ℕ) → i < n → f i ≡ true → is_some (lowest n f) ≡ true
-  unfolding lowest
-  lowest_some zero i k h = absurd (not-suc-le-zero k)
-  lowest_some (suc n) i k h =
-      ⊎_elim (λ b. kept (lowest n f) (lowest_some n i b h)) (λ e. here (lowest n f) (ap f (sym e) ∙ h)) (last_or_before i n k)
+  lowest_some n i k h = go (lowest n f) refl
     where
-      kept : (o : Option ℕ) → is_some o ≡ true → is_some (or_else o (when (f n) n)) ≡ true
-      kept (Some x) g = refl
-      kept None g = absurd (false≢true g)
-
-      here : (o : Option ℕ) → f n ≡ true → is_some (or_else o (when (f n) n)) ≡ true
-      here (Some x) g = refl
-      here None g = ap (λ b. is_some (cond b (Some n) None)) g
+      go : (o : Option ℕ) → lowest n f ≡ o → is_some o ≡ true
+      go None e = absurd (true≢false (sym h ∙ lowest_all n i e k))
+      go (Some x) e = refl
 
   -- where none is found, the test passes nowhere, and the other way round
   pub nowhere : (n i : ℕ) → is_some (lowest n f) ≡ false → i < n → f i ≡ false
-  nowhere n i h k = ⊎_elim (λ t. absurd (both_ways _ h (lowest_some n i k t))) (λ e. e) (cases_Bool (f i))
+  nowhere n i h k = go (lowest n f) refl h
+    where
+      go : (o : Option ℕ) → lowest n f ≡ o → is_some o ≡ false → f i ≡ false
+      go None e g = lowest_all n i e k
+      go (Some x) e g = absurd (true≢false g)
 
   pub nowhere_from : (n : ℕ) → ((i : ℕ) → i < n → f i ≡ false) → is_some (lowest n f) ≡ false
-  unfolding lowest
-  nowhere_from zero h = refl
-  nowhere_from (suc n) h = next (lowest n f) (nowhere_from n (λ i k. h i (omega arith))) (h n (omega arith))
-    where
-      next : (o : Option ℕ) → is_some o ≡ false → f n ≡ false → is_some (or_else o (when (f n) n)) ≡ false
-      next (Some x) g e = g
-      next None g e = ap (λ b. is_some (when b n)) e
+  nowhere_from n h = ap is_some (lowest_absent n h)
 
-  pub lowest_at_most : (n : ℕ) → unwrap_or (lowest n f) 0 ≤ n
-  lowest_at_most n = ⊎_elim (λ h. le_of_lt (lowest_below n 0 h)) (λ h. none (lowest n f) h) (cases_Bool (is_some (lowest n f)))
-    where
-      le_of_lt : {m : ℕ} → m < n → m ≤ n
-      le_of_lt h = omega arith
+  -- a search from 0 up that stops at the first number that passes finds the lowest
+  pub lowest_from_first : (n : ℕ) (r : Option ℕ)
+      → MatchOption r ((k : ℕ) → 0 ≤ k → k < n → f k ≡ false) (λ i. (0 ≤ i) × (i < n) × (f i ≡ true) × ((k : ℕ) → 0 ≤ k → k < i → f k ≡ false))
+      → r ≡ lowest n f
+  lowest_from_first n None none = sym (lowest_absent n (λ k b. none k (omega arith) b))
+  lowest_from_first n (Some i) found =
+      sym (lowest_found n i found.1 (lowest_absent i (λ k b. found.3 k (omega arith) b)) found.2)
 
-      none : (o : Option ℕ) → is_some o ≡ false → unwrap_or o 0 ≤ n
-      none (Some x) g = absurd (true≢false g)
-      none None g = omega arith
+  -- a walk from 0 up that stops at the first number that fails tells whether each passes
+  pub every_from_walk : (n : ℕ) (r : Bool)
+      → MatchBool r (AllWithin (λ i. f i ≡ true) (range_with_len 0 n) 0 (length (range_with_len 0 n)))
+      ((k : ℕ) × (k < length (range_with_len 0 n)) × HoldsAt (λ i. f i ≡ false) (range_with_len 0 n) k)
+      → r ≡ every n f
+  every_from_walk n true all =
+      sym (every_from n (λ i b. subst (λ k. f k ≡ true) (get_or-range_with_len 0 n i 0 b ∙ zero-add i) (all i 0 (omega arith) (omega (arith, length-range_with_len 0 n)))))
+  every_from_walk n false broken =
+      let b : broken.0 < n = omega (arith, length-range_with_len 0 n, broken.1) in
+      sym (every_broken n broken.0 b (subst (λ k. f k ≡ false) (get_or-range_with_len 0 n broken.0 0 b ∙ zero-add broken.0) (broken.2 0)))

@@ -2,6 +2,7 @@
 
 pub mod lattice;
 
+// Neither side is a failure, so this is no `Result`.
 /// One of two kinds. As a lattice it has the levels of the one that was chosen, and those of the other are none.
 #[derive(Clone, Copy, PartialEq, Eq, Debug)]
 pub enum Either<A, B> {

@@ -1,29 +1,51 @@
 //! Marks of an order of at most 16 levels, and the scans for their mistakes and bounds.
-ghost use Rattle.std.specs.Prelude.{◌≡◌, ◌≤◌, length};
-ghost use Rattle.levels.specs.Marks.{marked, toward, past_both};
+ghost use Rattle.std.specs.Prelude.{◌≡◌, ◌≤◌, true, false, length, take, slice_index, MatchResult};
+ghost use Rattle.levels.specs.Marks.{marked, row_fits, well_shaped, toward, past_both};
+ghost use Rattle.levels.specs.declared.table.TableFault.TheVariants.{Shape};
+
+use crate::scan::every;
+use crate::table::TableFault;
 
 pub mod bounds;
 pub mod mistakes;
 
-/// Rows of marks: bit j of row i marks that level i is at or below level j.
+/// Rows of marks: bit j of row i marks that level i is at or below level j. There are 1 to 16, and they mark levels that have a row.
 #[derive(Clone, Copy)]
 pub struct Marks<'a> {
-    rows: &'a [u16],
+    pub(crate) rows: &'a [u16],
+    ghost shaped: { well_shaped rows.now ≡ true },
     ghost few: { length rows.now ≤ 16 },
 }
 
-impl<'a> Marks<'a> {
-    pub fn new(rows: &'a [u16]) -> Marks<'a>
-        requires { length rows.now ≤ 16 }
-        ensures { result.rows.now ≡ rows.now }
-    {
-        Marks { rows }
-    }
+// A row, and 0 where there is none.
+fn row(rows: &[u16], i: u16) -> u16
+    ensures { result ≡ slice_index rows.now i }
+{
+    rows.get(i as usize).copied().unwrap_or(0)
+}
 
-    pub fn rows(self) -> &'a [u16]
-        ensures { result.now ≡ self.entry.rows.now }
+fn well_shaped(rows: &[u16]) -> bool
+    ensures { result ≡ well_shaped rows.now }
+{
+    let count = rows.len();
+    0 < count
+        && count <= 16
+        && every(
+            count as u16,
+            |i| u32::from(row(rows, i)) < 1 << count as u32,
+        )
+}
+
+impl<'a> Marks<'a> {
+    /// Refuses 0 or over 16 rows, and marks of levels without a row.
+    pub fn new(rows: &'a [u16]) -> Result<Marks<'a>, TableFault>
+        ensures { MatchResult result (λ m. m.rows.now ≡ rows.now) (λ e. (e ≡ Shape) × (well_shaped rows.now ≡ false)) }
     {
-        self.rows
+        if well_shaped(rows) {
+            Ok(Marks { rows })
+        } else {
+            Err(TableFault::Shape)
+        }
     }
 
     /// The number of levels.
@@ -31,6 +53,15 @@ impl<'a> Marks<'a> {
         ensures { result ≡ length self.entry.rows.now }
     {
         self.rows.len() as u16
+    }
+
+    /// The rows at the front of a table.
+    pub fn table(self) -> [u16; 16]
+        ensures { take (length self.entry.rows.now) result ≡ self.entry.rows.now }
+    {
+        let mut table = [0; 16];
+        table[..self.rows.len()].copy_from_slice(self.rows);
+        table
     }
 
     /// Whether level i is marked at or below level j.

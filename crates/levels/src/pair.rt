@@ -48,6 +48,7 @@ impl<A: Lattice, B: Lattice> Lattice for Pair<A, B> {
         self.left.le(a.0, b.0) && self.right.le(a.1, b.1)
     }
 
+    // Join and meet differ in the sides' method alone: one function for both would take a closure for each side, no plainer.
     fn join(&self, a: (A::Level, B::Level), b: (A::Level, B::Level)) -> (A::Level, B::Level) {
         if self.is_level(a) && self.is_level(b) {
             (self.left.join(a.0, b.0), self.right.join(a.1, b.1))

@@ -34,6 +34,7 @@ pub enum Place {
 #[derive(Clone, Copy, PartialEq, Eq, Debug)]
 pub struct Refusal {
     layer: Layer,
+    // The number is the format: transcripts and the second maker know refusals by it, so it is no enum.
     number: u8,
     place: Place,
 }
@@ -48,6 +49,7 @@ pub trait Fault {
 }
 
 /// The layer that gives a number.
+// A number is no layer but belongs to one, which a name says more plainly than `From`.
 pub fn layer_of(number: u8) -> Layer
     ensures { result ≡ layer_of number }
 {

@@ -1,36 +1,20 @@
 //! Every number below a bound, and the lowest of them, at which a test passes.
-ghost use Rattle.std.specs.Prelude.{◌≡◌, ℕ, Bool};
-ghost use Rattle.levels.specs.Scan.{every, lowest};
-
-/// A test of numbers.
-pub trait Test {
-    // Whether the test passes at a number.
-    ghost passes: { Self → ℕ → Bool };
-
-    fn test(&self, i: u16) -> bool
-        ensures { result ≡ passes self.now i };
-}
+ghost use Rattle.std.specs.Prelude.{◌≡◌, ℕ, Bool, ◌<◌, IfSome};
+ghost use Rattle.levels.specs.Scan.{Tells, every, lowest};
 
 /// The lowest number below `n` at which the test passes.
-pub fn lowest<T: Test>(n: u16, test: &T) -> Option<u16>
-    ensures { result ≡ lowest n (T.passes test.now) }
+pub fn lowest<F: Fn(u16) -> bool>(n: u16, test: F) -> Option<u16>
+    requires { F.IsAlwaysCallable test }
+    ensures first { (passes : ℕ → Bool) → Tells (F.post test) passes → result ≡ lowest n passes }
+    ensures below { IfSome result (λ i. i < n) }
 {
-    for i in 0..n {
-        if test.test(i) {
-            return Some(i);
-        }
-    }
-    None
+    (0..n).find(|i| test(*i))
 }
 
 /// Whether the test passes at every number below `n`.
-pub fn every<T: Test>(n: u16, test: &T) -> bool
-    ensures { result ≡ every n (T.passes test.now) }
+pub fn every<F: Fn(u16) -> bool>(n: u16, test: F) -> bool
+    requires { F.IsAlwaysCallable test }
+    ensures { (passes : ℕ → Bool) → Tells (F.post test) passes → result ≡ every n passes }
 {
-    for i in 0..n {
-        if !test.test(i) {
-            return false;
-        }
-    }
-    true
+    (0..n).all(|i| test(i))
 }

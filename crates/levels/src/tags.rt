@@ -40,6 +40,7 @@ impl Lattice for Tags {
         self.is_level(a) && self.is_level(b) && a.bits & b.bits == a.bits
     }
 
+    // Join and meet differ in `|` and `&` alone: one function that is handed the bits would say less plainly what they are.
     fn join(&self, a: TagSet, b: TagSet) -> TagSet {
         if self.is_level(a) && self.is_level(b) {
             TagSet {

@@ -1,5 +1,6 @@
 use books::TypeBook;
 use books::fixed::FixedBook;
+use books::numbers::Numbers;
 use books::row::RowBook;
 use levels::refusal::Fault;
 use std::process::Abort;
@@ -11,7 +12,12 @@ fn permissions_taken(
     permissions: u32,
     levels: &[u8],
 ) -> Result<bool, Fail> {
-    match RowBook::new(rt.alloc(), permissions, 1, 0, levels, &[]) {
+    let numbers = Numbers {
+        permissions,
+        types: 1,
+        figures: 0,
+    };
+    match RowBook::new(rt.alloc(), numbers, levels, &[]) {
         Ok(_) => Ok(true),
         Err(fault) => {
             assert!(rt; fault.refusal().to_string(rt.alloc())?.as_str() == "refused books 3 at 0");
@@ -37,7 +43,12 @@ fn fixed_taken(
     levels: &[u8],
     figure_levels: &[u8],
 ) -> bool {
-    FixedBook::new(rt.alloc(), 2, types, figures, levels, figure_levels).is_ok()
+    let numbers = Numbers {
+        permissions: 2,
+        types,
+        figures,
+    };
+    FixedBook::new(rt.alloc(), numbers, levels, figure_levels).is_ok()
 }
 
 #[test]
@@ -52,7 +63,12 @@ fn numbers_of_types_and_figures(rt: HostRuntime) {
 
 #[test]
 fn levels_of_a_row_book(rt: HostRuntime) -> Result<(), Fail> {
-    let book = RowBook::new(rt.alloc(), 1, 2, 1, &[10, 11, 20, 21], &[30])?;
+    let numbers = Numbers {
+        permissions: 1,
+        types: 2,
+        figures: 1,
+    };
+    let book = RowBook::new(rt.alloc(), numbers, &[10, 11, 20, 21], &[30])?;
     assert_eq!(rt; book.level(0, 1), Some(11));
     assert_eq!(rt; book.level(1, 0), Some(20));
     assert_eq!(rt; book.level(1, 2), None);
@@ -71,7 +87,12 @@ fn asked<B: TypeBook<Level = u8> + Drop>(book: B) -> (u16, Option<u8>) {
 
 #[test]
 fn levels_of_a_fixed_book(rt: HostRuntime) -> Result<(), Fail> {
-    let book = FixedBook::new(rt.alloc(), 2, 2, 0, &[10, 20], &[])?;
+    let numbers = Numbers {
+        permissions: 2,
+        types: 2,
+        figures: 0,
+    };
+    let book = FixedBook::new(rt.alloc(), numbers, &[10, 20], &[])?;
     assert_eq!(rt; book.level(0, 0), Some(10));
     assert_eq!(rt; book.level(1, 4), None);
     let (types, level) = asked(&book);

@@ -1,24 +1,10 @@
 -- Lists of entries written one after another.
-use Rattle.std.proofs.Common.{◌≡◌, ℕ, zero, suc, ◌+◌, ◌*◌, ◌<◌, ◌≤◌, List, [], ◌∷◌, ◌++◌, map, length, get_or, take, drop, sym, ap, ◌∙◌, ap₂, append_assoc, add_comm, mul-zero, zero-add, mul-suc, add-one, arith, length-append, length-drop, take-add}
+use Rattle.std.proofs.Common.{◌≡◌, ℕ, zero, suc, ◌+◌, ◌*◌, ◌/◌, ◌<◌, ◌≤◌, List, [], ◌∷◌, ◌++◌, map, length, get_or, take, drop, Some, Option, unwrap_or, sym, ap, ◌∙◌, ap₂, add_comm, mul-zero, zero-add, mul-suc, add-one, arith, length-append, length-drop, take-add}
+use Rattle.layout.specs.Decoding.{entries_of}
 use lib.Seq.{drop-append-add}
 use Rattle.std.specs.List.{range_with_len, flat_map}
-use Rattle.std.proofs.lemmas.List.{flat_map_more, take_more, take_all, length-take-le, get_or-take, get_or-drop}
+use Rattle.std.proofs.lemmas.List.{flat_map_more, take_all, length-take-le, get_or-take, get_or-drop}
 use Rattle.std.proofs.lemmas.List.FromFn.{map-range_with_len_more, fill_by_all}
-
-pub joined_next : {X : Type 0} (f : X → List ℕ) (xs : List X) (i : ℕ) (d : X) → i < length xs → flat_map f (take i xs) ++ f (get_or xs i d) ≡ flat_map f (take (i + 1) xs)
-joined_next f xs i d h = flat_map_more f [] (take i xs) (get_or xs i d) ∙ ap (flat_map f) (sym (take_more xs i d h))
-
--- one entry more
-pub entry_more : {X : Type 0} (f : X → List ℕ) (xs : List X) (i : ℕ) (d : X) (now was here : List ℕ) → i < length xs → was ≡ flat_map f (take i xs) → now ≡ was ++ here → here ≡ f (get_or xs i d) → now ≡ flat_map f (take (i + 1) xs)
-entry_more f xs i d now was here h ew en eh = en ∙ (ap (λ w. w ++ here) ew ∙ (ap (λ e. flat_map f (take i xs) ++ e) eh ∙ joined_next f xs i d h))
-
--- one entry more, in two pieces
-pub pieces_more : {X : Type 0} (f : X → List ℕ) (xs : List X) (i : ℕ) (d : X) (now mid was one two : List ℕ) → i < length xs → was ≡ flat_map f (take i xs) → mid ≡ was ++ one → now ≡ mid ++ two → one ++ two ≡ f (get_or xs i d) → now ≡ flat_map f (take (i + 1) xs)
-pieces_more f xs i d now mid was one two h ew em en eh =
-    entry_more f xs i d now was (one ++ two) h ew (en ∙ (ap (λ m. m ++ two) em ∙ append_assoc was one two)) eh
-
-pub entries_all : {X : Type 0} (f : X → List ℕ) (xs : List X) (i : ℕ) (now : List ℕ) → length xs ≤ i → now ≡ flat_map f (take i xs) → now ≡ flat_map f xs
-entries_all f xs i now h e = e ∙ ap (flat_map f) (take_all i xs h)
 
 -- Entries of one width.
 module _ {X : Type 0} (f : X → List ℕ) (w : ℕ) (d : X) where
@@ -46,6 +32,20 @@ joined_blocks f h w xs (suc n) same =
     ∙ (sym (flat_map_more f [] (map h (range_with_len 0 n)) (h n))
     ∙ (ap₂ (λ a b. a ++ b) (joined_blocks f h w xs n (λ i lt. same i (omega arith))) (same n (omega arith))
     ∙ (sym (take-add (w * n) w xs) ∙ ap (λ k. take k xs) (sym (mul-suc w n))))))
+
+-- Reading a list of entries, where each is read as it stands in xs.
+module _ {X : Type 0} (w : ℕ) (at : List ℕ → ℕ → Option X) (absent : X) where
+  pub entries_back : (all : List ℕ) (xs : List X) → length xs ≡ length all / w → ((i : ℕ) → i < length xs → at all i ≡ Some (get_or xs i absent)) → entries_of w at absent all ≡ xs
+  unfolding entries_of
+  entries_back all xs size back =
+      sym (fill_by_all (λ i. unwrap_or (at all i) absent) xs (length all / w) absent size
+      (λ i lt. sym (ap (λ o. unwrap_or o absent) (back i (omega (arith, size))))))
+
+  -- Writing what was read, where each entry is written as its block.
+  pub entries_written : (bytes : X → List ℕ) (xs : List ℕ) → length xs ≤ w * (length xs / w) → ((i : ℕ) → i < length xs / w → bytes (unwrap_or (at xs i) absent) ≡ take w (drop (w * i) xs)) → flat_map bytes (entries_of w at absent xs) ≡ xs
+  unfolding entries_of
+  entries_written bytes xs whole block =
+      joined_blocks bytes (λ i. unwrap_or (at xs i) absent) w xs (length xs / w) block ∙ take_all (w * (length xs / w)) xs whole
 
 -- a block by its places
 pub block_is : (xs : List ℕ) (m k : ℕ) → m + k ≤ length xs → take k (drop m xs) ≡ map (λ j. get_or xs (m + j) 0) (range_with_len 0 k)

@@ -2,12 +2,11 @@
 use Rattle.std.proofs.Common.{◌≡◌, ℕ, zero, suc, ◌+◌, ◌-◌, ◌<◌, ◌≤◌, true, false, not, ◌||◌, eqb, ltb, leb, List, length, is_some, Some, None, Option, unwrap_or, refl, ap, ◌∙◌, ⊎_elim, arith}
 use Rattle.std.proofs.lemmas.Bool.{and_parts, or_cases, not-false, not-true, not_from_true, both_ways, ltb-true, leb-true, le-leb, lt-leb, eqb-true, eqb-false, ne_eqb, cond-false}
 use Rattle.levels.specs.Scan.{lowest}
-use Rattle.levels.specs.Scans.{lowest_found}
 use Rattle.layout.specs.Code.{Code, function, body, start, owner}
 use Rattle.layout.specs.Decoding.{function_at}
 use Rattle.reading.specs.RecordRule.{last_function, record_broken}
 use Rattle.reading.specs.Sound.{FewFunctions, Placed}
-use Rattle.reading.proofs.Lowests.{lowest_all, lowest_is, lowest_inside, lowest_absent}
+use Rattle.levels.specs.Scans.{lowest_found, lowest_all, lowest_is, lowest_inside, lowest_absent}
 
 -- a record that is not broken is in its place
 pub placed_from : (gs : List ℕ) (c : Code) → ((g : ℕ) → g < length c.functions → record_broken gs c g ≡ false) → Placed c
@@ -67,14 +66,14 @@ module _ (c : Code) (records : Placed c) where
   owner_is g i inside low high =
       ap (λ o. unwrap_or o 0)
       (lowest_found (λ k. leb i (body c k)) (length c.functions) g inside
-      (lowest_absent g _ (λ k lt. lt-leb i (body c k) (omega (arith, start_above k g lt inside))))
+      (lowest_absent _ g (λ k lt. lt-leb i (body c k) (omega (arith, start_above k g lt inside))))
       (le-leb i (body c g) high))
 
   -- past the nodes there is no owner
   pub owner_past : (i : ℕ) → length c.nodes ≤ i → owner c i ≡ 0
   unfolding owner
   owner_past i far =
-      ap (λ o. unwrap_or o 0) (lowest_absent (length c.functions) _ (λ k lt. lt-leb i (body c k) (omega (arith, body_inside k lt))))
+      ap (λ o. unwrap_or o 0) (lowest_absent _ (length c.functions) (λ k lt. lt-leb i (body c k) (omega (arith, body_inside k lt))))
 
   -- a node lies at or before its function's body
   pub owner_ends : FewFunctions c → (i : ℕ) → i < length c.nodes → i ≤ body c (owner c i)
@@ -85,5 +84,5 @@ module _ (c : Code) (records : Placed c) where
       go None e =
           let last : length c.functions - 1 < length c.functions = omega arith in
           let ends = (place_is c (length c.functions - 1) records last).ends (omega arith) in
-          absurd (both_ways _ (lowest_all _ (length c.functions - 1) _ e last) (le-leb i (body c (length c.functions - 1)) (omega (arith, ends))))
-      go (Some g) e = leb-true i (body c g) (lowest_is _ g _ e).holds
+          absurd (both_ways _ (lowest_all _ _ (length c.functions - 1) e last) (le-leb i (body c (length c.functions - 1)) (omega (arith, ends))))
+      go (Some g) e = leb-true i (body c g) (lowest_is _ _ g e).holds

@@ -26,7 +26,7 @@ namings_small c zero j = omega arith
 namings_small c (suc i) j =
     omega (arith, namings_small c i j, hit_small (target (parts (node c i)).0) j, hit_small (target (parts (node c i)).1) j, hit_small (target (parts (node c i)).2) j)
 
-pub namings_more : (c : Code) (i j : ℕ) (ps : Part × Part × Part) (o₀ o₁ o₂ : Option ℕ) (w x y z : ℕ) → ps ≡ parts (node c i) → o₀ ≡ target ps.0 → o₁ ≡ target ps.1 → o₂ ≡ target ps.2 → w ≡ namings c i j → x ≡ w + hit o₀ j → y ≡ x + hit o₁ j → z ≡ y + hit o₂ j → z ≡ namings c (i + 1) j
+pub namings_more : (c : Code) (i j : ℕ) (ps : Option Part × Option Part × Option Part) (o₀ o₁ o₂ : Option ℕ) (w x y z : ℕ) → ps ≡ parts (node c i) → o₀ ≡ target ps.0 → o₁ ≡ target ps.1 → o₂ ≡ target ps.2 → w ≡ namings c i j → x ≡ w + hit o₀ j → y ≡ x + hit o₁ j → z ≡ y + hit o₂ j → z ≡ namings c (i + 1) j
 namings_more c i j ps o₀ o₁ o₂ w x y z e e₀ e₁ e₂ ew ex ey ez =
     let whole : times ps j ≡ times (parts (node c i)) j = ap (λ q. times q j) e in
     let h₀ : hit o₀ j ≡ hit (target ps.0) j = ap (λ o. hit o j) e₀ in

@@ -1,14 +1,14 @@
 -- What a program that was read has, in plain numbers. For the layers above.
-use Rattle.std.proofs.Common.{◌≡◌, ℕ, ◌<◌, ◌≤◌, Bool, true, false, not, ◌&&◌, ltb, leb, length, Some, Option, sym, ap, ◌∙◌, subst, ⊎_elim, arith}
+use Rattle.std.proofs.Common.{◌≡◌, ℕ, ◌<◌, ◌≤◌, Bool, true, false, not, ◌&&◌, ltb, leb, length, Some, None, Option, sym, ap, ◌∙◌, subst, ⊎_elim, arith}
 use Rattle.std.proofs.lemmas.Bool.{and_parts, and_from, or_cases, not-false, not-true, not_from_false, both_ways, ltb-true, lt-ltb, leb-true, leb-false, false≢true, eqb-false, cases_Bool}
 use Rattle.layout.specs.declared.parts.Part.{Part}
-use Rattle.layout.specs.declared.parts.Part.TheVariants.{Absent, Expression as OfExpression, Command as OfCommand, Argument as OfArgument}
+use Rattle.layout.specs.declared.parts.Sort.TheVariants.{Expression as OfExpression, Command as OfCommand}
 use Rattle.layout.specs.declared.node.Node.{Node}
 use Rattle.layout.specs.declared.node.Node.TheVariants.{Expression as Exp, Command as Com, Argument}
 use Rattle.layout.specs.declared.node.Expression.{Expression}
 use Rattle.layout.specs.declared.node.Command.{Command}
 use Rattle.layout.specs.declared.node.Command.TheVariants.{Call}
-use Rattle.layout.specs.Code.{Code, node, function, body, start, owner, is_expression, is_command, is_argument, as_expression, as_command}
+use Rattle.layout.specs.Code.{Code, node, function, body, start, owner, is_a, as_expression, as_command}
 use Rattle.layout.specs.Tree.{parts, slot_of}
 use Rattle.reading.specs.CodeRule.{past}
 use Rattle.reading.specs.NamingRule.{lies, part_fits, all_fit, is_body, ends_well}
@@ -18,13 +18,11 @@ use Rattle.reading.specs.Sound.{FewFunctions, SlotsFit, SlotsThere, NamesFit, Ca
 use Rattle.reading.proofs.Bodies.{owner_inside}
 
 -- what is so of a part: it lies between, and is of its sort
-abbrev pub PartIs : Code → ℕ → ℕ → Part → Type 0
-PartIs c low i Absent = Unit {0}
-PartIs c low i (OfExpression b) = (low ≤ b) × (b < i) × (is_expression (node c b) ≡ true)
-PartIs c low i (OfCommand b) = (low ≤ b) × (b < i) × (is_command (node c b) ≡ true)
-PartIs c low i (OfArgument b) = (low ≤ b) × (b < i) × (is_argument (node c b) ≡ true)
+abbrev pub PartIs : Code → ℕ → ℕ → Option Part → Type 0
+PartIs c low i None = Unit {0}
+PartIs c low i (Some p) = (low ≤ p.node) × (p.node < i) × (is_a p.sort (node c p.node) ≡ true)
 
-abbrev pub PartsAre : Code → ℕ → ℕ → Part × Part × Part → Type 0
+abbrev pub PartsAre : Code → ℕ → ℕ → Option Part × Option Part × Option Part → Type 0
 PartsAre c low i p = PartIs c low i p.0 × PartIs c low i p.1 × PartIs c low i p.2
 
 lies_between : (c : Code) (low i b : ℕ) (s : Bool) → (lies low i b && s) ≡ true → (low ≤ b) × (b < i) × (s ≡ true)
@@ -33,13 +31,11 @@ lies_between c low i b s e =
     let ends = and_parts (leb low b) (ltb b i) both.0 in
     (leb-true low b ends.0, ltb-true b i ends.1, both.1)
 
-part_is : (c : Code) (low i : ℕ) (p : Part) → part_fits c low i p ≡ true → PartIs c low i p
-part_is c low i Absent e = tt
-part_is c low i (OfExpression b) e = lies_between c low i b (is_expression (node c b)) e
-part_is c low i (OfCommand b) e = lies_between c low i b (is_command (node c b)) e
-part_is c low i (OfArgument b) e = lies_between c low i b (is_argument (node c b)) e
+part_is : (c : Code) (low i : ℕ) (p : Option Part) → part_fits c low i p ≡ true → PartIs c low i p
+part_is c low i None e = tt
+part_is c low i (Some p) e = lies_between c low i p.node (is_a p.sort (node c p.node)) e
 
-parts_are : (c : Code) (low i : ℕ) (p : Part × Part × Part) → all_fit c low i p ≡ true → PartsAre c low i p
+parts_are : (c : Code) (low i : ℕ) (p : Option Part × Option Part × Option Part) → all_fit c low i p ≡ true → PartsAre c low i p
 parts_are c low i p e =
     let front = and_parts (part_fits c low i p.0) (part_fits c low i p.1 && part_fits c low i p.2) e in
     let back = and_parts (part_fits c low i p.1) (part_fits c low i p.2) front.1 in
@@ -74,20 +70,20 @@ slot_small c i a few fit slots h e =
     let most = (slots_are c (owner c i) fit (owner_inside c i few)).slots in
     (small, omega arith)
 
-pub is_exp : (n : Node) (e : Expression) → is_expression n ≡ true → as_expression n ≡ e → n ≡ Exp e
+pub is_exp : (n : Node) (e : Expression) → is_a OfExpression n ≡ true → as_expression n ≡ e → n ≡ Exp e
 is_exp (Exp x) e h q = ap Exp q
 is_exp (Com x) e h q = absurd (false≢true h)
 is_exp (Argument b o) e h q = absurd (false≢true h)
 
-pub is_com : (n : Node) (e : Command) → is_command n ≡ true → as_command n ≡ e → n ≡ Com e
+pub is_com : (n : Node) (e : Command) → is_a OfCommand n ≡ true → as_command n ≡ e → n ≡ Com e
 is_com (Exp x) e h q = absurd (false≢true h)
 is_com (Com x) e h q = ap Com q
 is_com (Argument b o) e h q = absurd (false≢true h)
 
 -- a body is a command
-pub body_command : (c : Code) (i : ℕ) → NamesFit c → i < length c.nodes → i ≡ body c (owner c i) → is_command (node c i) ≡ true
+pub body_command : (c : Code) (i : ℕ) → NamesFit c → i < length c.nodes → i ≡ body c (owner c i) → is_a OfCommand (node c i) ≡ true
 body_command c i fit h e =
-    ⊎_elim (λ (q : not (is_body c i) ≡ true). absurd (eqb-false _ _ (not-true _ q) e)) (λ (q : is_command (node c i) ≡ true). q)
+    ⊎_elim (λ (q : not (is_body c i) ≡ true). absurd (eqb-false _ _ (not-true _ q) e)) (λ (q : is_a OfCommand (node c i) ≡ true). q)
     (or_cases _ _ (and_parts (ends_well c i) _ (not-false _ (fit i h))).0)
 
 -- a call names a lower function, and has as many arguments as that has parameters

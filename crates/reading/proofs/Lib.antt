@@ -3,7 +3,7 @@ pub mod Seen
 pub mod Judging
 pub mod Bodies
 pub mod Owning
-pub mod Lowests
+pub mod Made
 pub mod Counts
 pub mod Chains
 pub mod Parents

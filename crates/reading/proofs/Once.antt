@@ -1,8 +1,7 @@
 -- Each node is named by one other at most.
-use Rattle.std.proofs.Common.{◌≡◌, ℕ, zero, suc, ◌+◌, ◌<◌, ◌≤◌, true, false, eqb, length, Some, sym, refl, ⊎_elim, arith}
+use Rattle.std.proofs.Common.{◌≡◌, ℕ, zero, suc, ◌+◌, ◌<◌, ◌≤◌, true, false, eqb, length, Some, None, Option, sym, refl, ⊎_elim, arith}
 use Rattle.std.proofs.lemmas.Bool.{and_from, not_from_false, both_ways, lt-ltb, eqb-true, ne_eqb, cases_eq, cases_lt, cases_order, cases_Bool, cond-false}
 use Rattle.layout.specs.declared.parts.Part.{Part}
-use Rattle.layout.specs.declared.parts.Part.TheVariants.{Absent, Expression as OfExpression, Command as OfCommand, Argument as OfArgument}
 use Rattle.layout.specs.Code.{Code, node, body, start, owner}
 use Rattle.layout.specs.Tree.{parts, target, hit, times, namings}
 use Rattle.reading.specs.Naming.{NamingsStand}
@@ -43,11 +42,9 @@ module _ (c : Code) (few : FewFunctions c) (records : Placed c) where
         at : (b : ℕ) → 0 < hit (Some b) j → b ≡ j
         at b q = ⊎_elim (λ (e : eqb b j ≡ true). eqb-true b j e) (λ (e : eqb b j ≡ false). absurd (omega (arith, q, cond-false {A = ℕ} (eqb b j) 1 0 e))) (cases_Bool (eqb b j))
 
-        part : (x : Part) → PartIs c (start c (owner c p)) p x → 0 < hit (target x) j → (start c (owner c p) ≤ j) × (j < p)
-        part Absent is q = absurd (omega arith)
-        part (OfExpression b) is q = (omega (arith, is.0, at b q), omega (arith, is.1, at b q))
-        part (OfCommand b) is q = (omega (arith, is.0, at b q), omega (arith, is.1, at b q))
-        part (OfArgument b) is q = (omega (arith, is.0, at b q), omega (arith, is.1, at b q))
+        part : (x : Option Part) → PartIs c (start c (owner c p)) p x → 0 < hit (target x) j → (start c (owner c p) ≤ j) × (j < p)
+        part None is q = absurd (omega arith)
+        part (Some x) is q = (omega (arith, is.0, at x.node q), omega (arith, is.1, at x.node q))
 
     -- a body is not named
     body_unnamed : (p j : ℕ) → p < length c.nodes → 0 < times (parts (node c p)) j → j ≡ body c (owner c j) → ⊥

@@ -3,8 +3,7 @@ use Rattle.std.proofs.Common.{◌≡◌, ℕ, zero, suc, ◌+◌, ◌<◌, ◌�
 use Rattle.std.proofs.lemmas.Bool.{and_parts, not-false, ltb-true, eqb-true, cases_Bool, cond-true, cond-false, cases_lt}
 use Rattle.std.proofs.lemmas.Bool.Decides.{nat_tests}
 use Rattle.layout.specs.declared.parts.Part.{Part}
-use Rattle.layout.specs.declared.parts.Part.TheVariants.{Absent, Expression as OfExpression, Command as OfCommand, Argument as OfArgument}
-use Rattle.layout.specs.Code.{Code, node, start, owner, is_expression, is_command, is_argument}
+use Rattle.layout.specs.Code.{Code, node, start, owner, is_a}
 use Rattle.layout.specs.Tree.{parts, target, hit, times}
 use Rattle.reading.specs.NamingRule.{lies, part_fits, all_fit, ends_well, naming_broken}
 use Rattle.reading.specs.ScopeRule.{parent, within, below_parent, scope}
@@ -16,11 +15,9 @@ hit_lower c low i j b e h =
     (λ (q : eqb b j ≡ false). absurd (omega (arith, h, cond-false {A = ℕ} (eqb b j) 1 0 q)))
     (cases_Bool (eqb b j))
 
-part_lower : (c : Code) (low i j : ℕ) (p : Part) → part_fits c low i p ≡ true → 0 < hit (target p) j → j < i
-part_lower c low i j Absent e h = absurd (omega arith)
-part_lower c low i j (OfExpression b) e h = hit_lower c low i j b (and_parts _ (is_expression (node c b)) e).0 h
-part_lower c low i j (OfCommand b) e h = hit_lower c low i j b (and_parts _ (is_command (node c b)) e).0 h
-part_lower c low i j (OfArgument b) e h = hit_lower c low i j b (and_parts _ (is_argument (node c b)) e).0 h
+part_lower : (c : Code) (low i j : ℕ) (p : Option Part) → part_fits c low i p ≡ true → 0 < hit (target p) j → j < i
+part_lower c low i j None e h = absurd (omega arith)
+part_lower c low i j (Some p) e h = hit_lower c low i j p.node (and_parts _ (is_a p.sort (node c p.node)) e).0 h
 
 pub named_lower : (c : Code) (i j : ℕ) → naming_broken c i ≡ false → 0 < times (parts (node c i)) j → j < i
 named_lower c i j e h =
@@ -80,11 +77,11 @@ module _ (c : Code) (lower : (i j : ℕ) → i < length c.nodes → 0 < times (p
   scope_below j h = scope_stable (length c.nodes) j h (omega arith)
 
 -- three adoptions in a row
-pub parent_more : (c : Code) (i j : ℕ) (ps : Part × Part × Part) (o₀ o₁ o₂ w x y z : Option ℕ) → ps ≡ parts (node c i) → o₀ ≡ target ps.0 → o₁ ≡ target ps.1 → o₂ ≡ target ps.2 → w ≡ parent c i j → x ≡ cond (ltb 0 (hit o₀ j)) (Some i) w → y ≡ cond (ltb 0 (hit o₁ j)) (Some i) x → z ≡ cond (ltb 0 (hit o₂ j)) (Some i) y → z ≡ parent c (i + 1) j
+pub parent_more : (c : Code) (i j : ℕ) (ps : Option Part × Option Part × Option Part) (o₀ o₁ o₂ w x y z : Option ℕ) → ps ≡ parts (node c i) → o₀ ≡ target ps.0 → o₁ ≡ target ps.1 → o₂ ≡ target ps.2 → w ≡ parent c i j → x ≡ cond (ltb 0 (hit o₀ j)) (Some i) w → y ≡ cond (ltb 0 (hit o₁ j)) (Some i) x → z ≡ cond (ltb 0 (hit o₂ j)) (Some i) y → z ≡ parent c (i + 1) j
 parent_more c i j ps o₀ o₁ o₂ w x y z e e₀ e₁ e₂ ew ex ey ez =
-    let h₀ : hit o₀ j ≡ hit (target (parts (node c i)).0) j = ap (λ o. hit o j) (e₀ ∙ ap (λ (q : Part × Part × Part). target q.0) e) in
-    let h₁ : hit o₁ j ≡ hit (target (parts (node c i)).1) j = ap (λ o. hit o j) (e₁ ∙ ap (λ (q : Part × Part × Part). target q.1) e) in
-    let h₂ : hit o₂ j ≡ hit (target (parts (node c i)).2) j = ap (λ o. hit o j) (e₂ ∙ ap (λ (q : Part × Part × Part). target q.2) e) in
+    let h₀ : hit o₀ j ≡ hit (target (parts (node c i)).0) j = ap (λ o. hit o j) (e₀ ∙ ap (λ (q : Option Part × Option Part × Option Part). target q.0) e) in
+    let h₁ : hit o₁ j ≡ hit (target (parts (node c i)).1) j = ap (λ o. hit o j) (e₁ ∙ ap (λ (q : Option Part × Option Part × Option Part). target q.1) e) in
+    let h₂ : hit o₂ j ≡ hit (target (parts (node c i)).2) j = ap (λ o. hit o j) (e₂ ∙ ap (λ (q : Option Part × Option Part × Option Part). target q.2) e) in
     ez ∙ (ap (λ v. cond (ltb 0 (hit o₂ j)) (Some i) v) (ey ∙ ap (λ v. cond (ltb 0 (hit o₁ j)) (Some i) v) (ex ∙ ap (λ v. cond (ltb 0 (hit o₀ j)) (Some i) v) ew))
     ∙ (joined (hit o₀ j) (hit o₁ j) (hit o₂ j) (times (parts (node c i)) j) (Some i) (parent c i j) (omega (arith, h₀, h₁, h₂)) ∙ sym (parent_step c i j)))
   where

@@ -1,73 +1,26 @@
 -- Reading what was written gives the program back.
-use Rattle.std.proofs.Common.{◌≡◌, ℕ, suc, ◌+◌, ◌*◌, ◌/◌, ◌%◌, ◌<◌, ◌≤◌, true, not, ◌&&◌, eqb, List, ◌++◌, length, get_or, take, drop, is_some, Some, None, Option, unwrap_or, sym, refl, ap, ◌∙◌, ap₂, arith}
+use Rattle.std.proofs.Common.{◌≡◌, ℕ, suc, ◌+◌, ◌*◌, ◌/◌, ◌%◌, ◌<◌, ◌≤◌, true, not, ◌&&◌, List, ◌++◌, length, get_or, take, drop, is_some, Some, None, Option, sym, refl, ap, ◌∙◌, ap₂, arith}
+use Rattle.std.specs.Bool.{then_some}
 use Rattle.std.specs.List.{flat_map}
-use Rattle.std.proofs.lemmas.List.FromFn.{fill_by_all}
 use Rattle.std.proofs.lemmas.List.{get_or-drop, drop-drop, take_at}
-use Rattle.std.proofs.lemmas.Bool.{and_from, or_from, not-false, not_from_true, le-leb, eq-eqb, ne_eqb, cond-true, cond-false}
-use Rattle.levels.specs.Scan.{when}
-use Rattle.layout.specs.declared.node.Operator.TheVariants.{Add, Subtract, Multiply, Divide, Less, Equal}
-use Rattle.layout.specs.declared.node.Expression.TheVariants.{Constant, Slot, Figure, Operation}
+use Rattle.std.proofs.lemmas.Bool.{and_from, or_from, not-false, not_from_true, le-leb, eq-eqb, cond-true}
 use Rattle.layout.specs.declared.node.Command.TheVariants.{Nothing, SetSlot, SetFigure, If, While, Then, Let, Call, Test}
 use Rattle.layout.specs.declared.node.Node.{Node}
 use Rattle.layout.specs.declared.node.Node.TheVariants.{Expression as Exp, Command as Com, Argument}
 use Rattle.layout.specs.declared.function.Function.{Function}
 use Rattle.layout.specs.Code.{Code, code, node, function, owner, start, no_node, no_function}
 use Rattle.layout.specs.Tree.{parts, next_part}
-use Rattle.layout.specs.Decoding.{byte, word, linked, node_of, has, node_at, record_at, padded, slots_fit, function_at, nodes_of, functions_of, decoded}
-use Rattle.layout.specs.Encoding.{link, operands, node_bytes, function_bytes}
+use Rattle.layout.specs.Decoding.{byte, word, node_of, has, node_at, record_at, padded, slots_fit, function_at, nodes_of, functions_of, decoded}
+use Rattle.layout.specs.Encoding.{coded, operands, node_bytes, function_bytes}
 use Rattle.reading.specs.SizeRule.{counts, sizes_fit}
 use Rattle.reading.specs.Verdict.{judged, refused, unless}
 use Rattle.reading.specs.Sound.{Sound}
 use Rattle.reading.specs.Copies.{ReadsBack}
-use Rattle.reading.proofs.Blocks.{joined_length, joined_drop}
+use Rattle.layout.proofs.Coded.{Linked, Writable, operands_read}
+use Rattle.reading.proofs.Blocks.{joined_length, joined_drop, entries_back}
 use Rattle.reading.proofs.Facts.{PartIs, PartsAre, names}
 use Rattle.reading.proofs.Judging.{judged_is}
-use Rattle.reading.proofs.Lowests.{lowest_absent}
-
--- a link that can be told from no node
-abbrev Linked : Option ℕ → Type 0
-Linked None = Unit {0}
-Linked (Some n) = n < 65535
-
-linked_link : (o : Option ℕ) → Linked o → linked (link o) ≡ o
-linked_link None h = refl
-linked_link (Some n) h = cond-false (eqb n 65535) None (Some n) (ne_eqb n 65535 (λ e. omega arith))
-
-abbrev Writable : Node → Type 0
-Writable (Exp e) = Unit {0}
-Writable (Com Nothing) = Unit {0}
-Writable (Com (SetSlot a b)) = Unit {0}
-Writable (Com (SetFigure a b)) = Unit {0}
-Writable (Com (If b c d)) = Unit {0}
-Writable (Com (While b c)) = Unit {0}
-Writable (Com (Then b c)) = Unit {0}
-Writable (Com (Let a b c)) = Unit {0}
-Writable (Com (Call a g o)) = Linked o
-Writable (Com (Test a b c)) = Unit {0}
-Writable (Argument b o) = Linked o
-
--- the code and operands of a node are read as that node
-operands_read : (n : Node) → Writable n → node_of (operands n).0 (operands n).1 (operands n).2 (operands n).3 (operands n).4 ≡ Some n
-unfolding node_of
-operands_read (Exp (Constant v)) h = let e : 65536 * (v / 65536) + v % 65536 ≡ v = omega arith in ap (λ x. Some (Exp (Constant x))) e
-operands_read (Exp (Slot a)) h = refl
-operands_read (Exp (Figure a)) h = refl
-operands_read (Exp (Operation Add b c)) h = refl
-operands_read (Exp (Operation Subtract b c)) h = refl
-operands_read (Exp (Operation Multiply b c)) h = refl
-operands_read (Exp (Operation Divide b c)) h = refl
-operands_read (Exp (Operation Less b c)) h = refl
-operands_read (Exp (Operation Equal b c)) h = refl
-operands_read (Com Nothing) h = refl
-operands_read (Com (SetSlot a b)) h = refl
-operands_read (Com (SetFigure a b)) h = refl
-operands_read (Com (If b c d)) h = refl
-operands_read (Com (While b c)) h = refl
-operands_read (Com (Then b c)) h = refl
-operands_read (Com (Let a b c)) h = refl
-operands_read (Com (Call a g o)) h = ap (λ x. Some (Com (Call a g x))) (linked_link o h)
-operands_read (Com (Test a b c)) h = refl
-operands_read (Argument b o) h = ap (λ x. Some (Argument b x)) (linked_link o h)
+use Rattle.levels.specs.Scans.{lowest_absent}
 
 -- what a program names can be written
 next_linked : (c : Code) (low i : ℕ) (o : Option ℕ) → i ≤ 4096 → PartIs c low i (next_part o) → Linked o
@@ -98,6 +51,10 @@ module _ (xs : List ℕ) (m : ℕ) (front : List ℕ) (e : drop m xs ≡ front) 
       let b = at (k + 1) (j + 1) (omega arith) in
       omega (arith, a ∙ high, b ∙ low)
 
+-- operands by their parts
+five : {k a b c d k' a' b' c' d' : ℕ} → k ≡ k' → a ≡ a' → b ≡ b' → c ≡ c' → d ≡ d' → coded k a b c d ≡ coded k' a' b' c' d'
+five p q r s t = rw (p, q, r, s, t)
+
 module _ (ns : List Node) where
   nodes_length : length (flat_map node_bytes ns) ≡ 8 * length ns
   nodes_length = joined_length node_bytes 8 no_node ns (λ k lt. refl)
@@ -109,11 +66,8 @@ module _ (ns : List Node) where
       let o = operands (get_or ns i no_node) in
       let front = joined_drop node_bytes 8 no_node ns i (λ k lt. refl) h in
       cond-true (has 8 (flat_map node_bytes ns) i) _ _ (le-leb _ _ (omega (arith, nodes_length)))
-      ∙ (five (at _ (8 * i) _ front 0 (8 * i) (omega arith)) (at _ (8 * i) _ front 1 _ refl) (word_at _ (8 * i) _ front 2 _ o.2 refl refl refl) (word_at _ (8 * i) _ front 4 _ o.3 refl refl refl) (word_at _ (8 * i) _ front 6 _ o.4 refl refl refl)
+      ∙ (ap node_of (five (at _ (8 * i) _ front 0 (8 * i) (omega arith)) (at _ (8 * i) _ front 1 _ refl) (word_at _ (8 * i) _ front 2 _ o.b refl refl refl) (word_at _ (8 * i) _ front 4 _ o.c refl refl refl) (word_at _ (8 * i) _ front 6 _ o.d refl refl refl))
       ∙ operands_read (get_or ns i no_node) ok)
-    where
-      five : {k a b c d k' a' b' c' d' : ℕ} → k ≡ k' → a ≡ a' → b ≡ b' → c ≡ c' → d ≡ d' → node_of k a b c d ≡ node_of k' a' b' c' d'
-      five p q r s t = rw (p, q, r, s, t)
 
 -- functions
 same_function : (xs : List ℕ) (g : ℕ) (f : Function) → byte xs (24 * g) ≡ f.app → byte xs (24 * g + 1) ≡ f.parameters → byte xs (24 * g + 2) ≡ f.slots → byte xs (24 * g + 3) ≡ f.effect → word xs (24 * g + 4) ≡ f.body → take 16 (drop (24 * g + 8) xs) ≡ f.types → record_at xs g ≡ f
@@ -152,7 +106,7 @@ module _ (gs : List Function) (whole : (g : ℕ) → g < length gs → length (g
         let kept : (has 24 all g && (padded all g && slots_fit (record_at all g))) ≡ true =
         and_from _ _ (le-leb _ _ (omega (arith, functions_length)))
         (and_from _ _ (and_from _ _ (eq-eqb _ _ (at all (24 * g) _ front 6 _ refl)) (eq-eqb _ _ (at all (24 * g) _ front 7 _ refl))) (ap slots_fit record_written ∙ ok)) in
-        ap₂ when kept record_written
+        ap₂ then_some kept record_written
 
 -- the whole program
 module _ (c : Code) (s : Sound c) where
@@ -169,14 +123,10 @@ module _ (c : Code) (s : Sound c) where
   function_back g h = function_written c.functions s.types_whole g h (not-false _ (s.slots_fit g h))
 
   nodes_back : nodes_of written_nodes ≡ c.nodes
-  unfolding nodes_of
-  nodes_back = sym (fill_by_all (λ i. unwrap_or (node_at written_nodes i) no_node) c.nodes (length written_nodes / 8) no_node (omega (arith, nodes_length c.nodes))
-      (λ i lt. sym (ap (λ o. unwrap_or o no_node) (node_back i (omega (arith, nodes_length c.nodes))))))
+  nodes_back = entries_back 8 node_at no_node written_nodes c.nodes (omega (arith, nodes_length c.nodes)) node_back
 
   functions_back : functions_of written_functions ≡ c.functions
-  unfolding functions_of
-  functions_back = sym (fill_by_all (λ g. unwrap_or (function_at written_functions g) no_function) c.functions (length written_functions / 24) no_function (omega (arith, functions_length c.functions s.types_whole))
-      (λ g lt. sym (ap (λ o. unwrap_or o no_function) (function_back g (omega (arith, functions_length c.functions s.types_whole))))))
+  functions_back = entries_back 24 function_at no_function written_functions c.functions (omega (arith, functions_length c.functions s.types_whole)) function_back
 
   decoded_back : decoded written_nodes written_functions c.apps ≡ c
   decoded_back = ap₂ (λ n g. code n g c.apps) nodes_back functions_back

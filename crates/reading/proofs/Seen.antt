@@ -2,7 +2,8 @@
 use Rattle.std.proofs.Common.{◌≡◌, ℕ, ◌+◌, ◌*◌, ◌/◌, ◌%◌, ◌<◌, ◌≤◌, true, false, not, ◌&&◌, eqb, leb, List, length, drop, is_some, Some, None, Option, unwrap_or, sym, refl, ap, ◌∙◌, ⊎_elim, arith, length-drop}
 use Rattle.std.proofs.lemmas.List.{length-take}
 use Rattle.std.proofs.lemmas.Bool.{not-false, not_from_true, and_parts, or_parts, cases_Bool, cond-true, cond-false, leb-true, eqb-true, false≢true}
-use Rattle.levels.specs.Scan.{lowest, when}
+use Rattle.std.specs.Bool.{then_some}
+use Rattle.levels.specs.Scan.{lowest}
 use Rattle.levels.specs.declared.refusal.Refusal.{Refusal}
 use Rattle.levels.specs.declared.refusal.Place.TheVariants.{Whole}
 use Rattle.levels.specs.Refusals.{broken}
@@ -18,8 +19,8 @@ use Rattle.reading.specs.CallRule.{call_broken}
 use Rattle.reading.specs.OnceRule.{once_broken}
 use Rattle.reading.specs.ScopeRule.{scope_broken}
 use Rattle.reading.specs.Verdict.{refused}
-use Rattle.reading.specs.Sound.{FewNodes, FewFunctions, FewApps, SlotsFit, TypesWhole, Placed, SlotsThere, NamesFit, CallsFit, NamedOnce, InScope}
-use Rattle.reading.proofs.Lowests.{lowest_all}
+use Rattle.reading.specs.Sound.{FewNodes, FewFunctions, FewApps, SlotsFit, TypesWhole, Placed, SlotsThere, NamesFit, CallsFit, NamedOnce, InScope, Sound}
+use Rattle.levels.specs.Scans.{lowest_all}
 use Rattle.reading.proofs.Bodies.{placed_from}
 use Rattle.layout.proofs.Decoded.{length_nodes, length_functions, function_is}
 use Rattle.reading.proofs.Judging.{of_searches, judged_is}
@@ -37,11 +38,11 @@ none_found (Some x) o₂ o₃ o₄ o₅ o₆ e = let z : ◌≡◌ {A = ℕ} 0 1
 pub kept_layout : (gs : List ℕ) (g : ℕ) → is_some (function_at gs g) ≡ true → (has 24 gs g && (padded gs g && slots_fit (record_at gs g))) ≡ true
 kept_layout gs g e =
     ⊎_elim (λ (q : (has 24 gs g && (padded gs g && slots_fit (record_at gs g))) ≡ true). q)
-    (λ (q : (has 24 gs g && (padded gs g && slots_fit (record_at gs g))) ≡ false). absurd (false≢true (sym (ap (λ b. is_some (when b (record_at gs g))) q) ∙ e)))
+    (λ (q : (has 24 gs g && (padded gs g && slots_fit (record_at gs g))) ≡ false). absurd (false≢true (sym (ap (λ b. is_some (then_some b (record_at gs g))) q) ∙ e)))
     (cases_Bool (has 24 gs g && (padded gs g && slots_fit (record_at gs g))))
 
 pub function_as : (gs : List ℕ) (g : ℕ) → (has 24 gs g && (padded gs g && slots_fit (record_at gs g))) ≡ true → unwrap_or (function_at gs g) no_function ≡ record_at gs g
-function_as gs g e = ap (λ b. unwrap_or (when b (record_at gs g)) no_function) e
+function_as gs g e = ap (λ b. unwrap_or (then_some b (record_at gs g)) no_function) e
 
 types_length : (gs : List ℕ) (g : ℕ) → 24 * g + 24 ≤ length gs → length (record_at gs g).types ≡ 16
 unfolding record_at
@@ -86,7 +87,7 @@ module _ (ns gs ps : List ℕ) (good : refused ns gs ps ≡ None) where
   all_none = none_found _ _ _ _ _ _ (judged_is ns gs it refl refl refl refl refl refl ∙ (sym (cond-true _ _ _ sized) ∙ good))
 
   pub records_good : (g : ℕ) → g < length it.functions → record_broken gs it g ≡ false
-  records_good g h = lowest_all _ g _ all_none.0 h
+  records_good g h = lowest_all _ _ g all_none.0 h
 
   pub layout_good : (g : ℕ) → g < length it.functions → (has 24 gs g && (padded gs g && slots_fit (record_at gs g))) ≡ true
   layout_good g h = kept_layout gs g (and_parts (is_some (function_at gs g)) (placed it g) (not-false _ (records_good g h))).0
@@ -106,22 +107,37 @@ module _ (ns gs ps : List ℕ) (good : refused ns gs ps ≡ None) where
   placed_good = placed_from gs it records_good
 
   pub codes_good : (i : ℕ) → i < length it.nodes → is_some (node_at ns i) ≡ true
-  codes_good i h = not-false _ (or_parts (not (is_some (node_at ns i))) (slot_broken it i) (lowest_all _ i _ all_none.1 h)).0
+  codes_good i h = not-false _ (or_parts (not (is_some (node_at ns i))) (slot_broken it i) (lowest_all _ _ i all_none.1 h)).0
 
   pub slots_there : SlotsThere it
-  slots_there i h = (or_parts (not (is_some (node_at ns i))) (slot_broken it i) (lowest_all _ i _ all_none.1 h)).1
+  slots_there i h = (or_parts (not (is_some (node_at ns i))) (slot_broken it i) (lowest_all _ _ i all_none.1 h)).1
 
   pub names_fit : NamesFit it
-  names_fit i h = lowest_all _ i _ all_none.2 h
+  names_fit i h = lowest_all _ _ i all_none.2 h
 
   pub calls_fit : CallsFit it
-  calls_fit i h = lowest_all _ i _ all_none.3 h
+  calls_fit i h = lowest_all _ _ i all_none.3 h
 
   pub named_once : NamedOnce it
-  named_once i h = lowest_all _ i _ all_none.4 h
+  named_once i h = lowest_all _ _ i all_none.4 h
 
   pub in_scope : InScope it
-  in_scope i h = lowest_all _ i _ all_none.5 h
+  in_scope i h = lowest_all _ _ i all_none.5 h
+
+  pub sound : Sound it
+  sound = record {
+    few_nodes = few_nodes;
+    few_functions = few_functions;
+    few_apps = few_apps;
+    slots_fit = slots_good;
+    types_whole = types_whole;
+    placed = placed_good;
+    slots_there = slots_there;
+    names_fit = names_fit;
+    calls_fit = calls_fit;
+    named_once = named_once;
+    in_scope = in_scope;
+  }
 
 pub code_is : (ns gs ps : List ℕ) (n : List Node) (g : List Function) (p : List ℕ) → n ≡ nodes_of ns → g ≡ functions_of gs → p ≡ ps → code n g p ≡ decoded ns gs ps
 code_is ns gs ps n g p en eg ep = rw (en, eg, ep)

@@ -9,6 +9,7 @@ pub mod Verdict
 pub mod ReadingRefusal
 pub mod Sound
 pub mod Meaning
+pub mod Trees
 pub mod Reading
 pub mod Opened
 pub mod Chain

@@ -4,4 +4,4 @@ use Rattle.layout.specs.Code.{Code}
 use Rattle.layout.specs.Decoding.{decoded}
 
 abbrev pub code_of : Bytes → Code
-code_of b = decoded b.nodes.now b.functions.now b.apps.now
+code_of b = decoded b.lists.nodes.now b.lists.functions.now b.lists.apps.now

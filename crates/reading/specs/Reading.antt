@@ -1,17 +1,12 @@
--- What a program is that was read, and one that was written, and which answer says that memory was lacking.
+-- What a program is that was read, and which answer says that memory was lacking.
 use Rattle.std.specs.Prelude.{Bool, true, false, Ok, Err, vec_items, Result}
 use Rattle.reading.specs.declared.fault.ReadingFault.{ReadingFault}
 use Rattle.reading.specs.declared.fault.ReadingFault.TheVariants.{Sizes, Record, Malformed, Misnamed, Miscalled, NotNamedOnce, OutOfScope, Memory}
 use Rattle.reading.specs.declared.program.Program.{Program}
-use Rattle.reading.specs.declared.program.Written.{Written}
 use Rattle.layout.specs.Code.{Code, code}
-use Rattle.layout.specs.Encoding.{Lists, lists}
 
 abbrev pub program_code : Program → Code
 program_code p = code (vec_items p.nodes) (vec_items p.functions) (vec_items p.apps)
-
-abbrev pub written_lists : Written → Lists
-written_lists w = lists (vec_items w.nodes) (vec_items w.functions) (vec_items w.apps)
 
 abbrev pub wants_memory : ReadingFault → Bool
 wants_memory Sizes = false

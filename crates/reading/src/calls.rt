@@ -4,22 +4,23 @@ ghost use Rattle.levels.specs.Scan.{lowest};
 ghost use Rattle.reading.specs.Meaning.{code_of};
 ghost use Rattle.layout.specs.Tree.{next_of};
 ghost use Rattle.reading.specs.CallRule.{chained, calls_well, call_broken};
+ghost use Rattle.reading.specs.ReadingRefusal.{told};
+ghost use Rattle.reading.specs.Trees.{tree_code};
+ghost use Rattle.reading.specs.Verdict.{rule8};
 
 use crate::bytes::Bytes;
+use crate::fault::ReadingFault;
 use crate::owners::Owners;
+use crate::refuse::where_broken;
 use layout::node::{Command, Node};
-use levels::scan::{Test, lowest};
 
 impl<'a> Bytes<'a> {
     fn next_of(&self, argument: Option<u16>) -> Option<Option<u16>>
         ensures { result ≡ next_of (code_of self.now) argument }
     {
-        match argument {
-            None => None,
-            Some(b) => match self.node(b) {
-                Node::Argument { next, .. } => Some(next),
-                _ => None,
-            },
+        match self.node(argument?) {
+            Node::Argument { next, .. } => Some(next),
+            _ => None,
         }
     }
 
@@ -29,10 +30,10 @@ impl<'a> Bytes<'a> {
     {
         let mut argument = first;
         for n in 0..count {
-            match self.next_of(argument) {
-                None => return false,
-                Some(next) => argument = next,
-            }
+            let Some(next) = self.next_of(argument) else {
+                return false;
+            };
+            argument = next;
         }
         argument.is_none()
     }
@@ -40,7 +41,7 @@ impl<'a> Bytes<'a> {
 
 impl<'a> Owners<'a> {
     fn calls_well(&self, i: u16, node: Node) -> bool
-        ensures { result ≡ calls_well (code_of self.now.bytes) i node }
+        ensures { result ≡ calls_well (tree_code self.now) i node }
     {
         match node {
             Node::Command(
@@ -49,34 +50,26 @@ impl<'a> Owners<'a> {
                     arguments,
                     ..
                 },
-            ) => g < self.owner(i)
-                && self
-                    .bytes
-                    .chained(self.bytes.function(g).parameters, arguments),
+            ) => {
+                let parameters = self.functions.function(g).parameters;
+                g < self.owner(i) && self.functions.bytes.chained(parameters, arguments)
+            }
             _ => true,
         }
     }
-}
 
-// Whether the node calls a function that it may not, or with the wrong number of arguments.
-#[derive(Drop)]
-struct Calls<'t, 'a> {
-    tree: &'t Owners<'a>,
-}
-
-impl<'t, 'a> Test for Calls<'t, 'a> {
-    ghost passes = { λ s i. call_broken (code_of s.tree.now.bytes) i };
-
-    fn test(&self, i: u16) -> bool {
-        !self.tree.calls_well(i, self.tree.bytes.node(i))
-    }
-}
-
-impl<'a> Owners<'a> {
-    // The lowest node that breaks rule 8.
-    pub fn miscalled(&self) -> Option<u16>
-        ensures { result ≡ lowest (length (code_of self.now.bytes).nodes) (call_broken (code_of self.now.bytes)) }
+    // Whether the node calls a function that it may not, or with the wrong number of arguments.
+    fn breaks_call(&self, i: u16) -> bool
+        ensures { result ≡ call_broken (tree_code self.now) i }
     {
-        lowest(self.bytes.node_count(), &Calls { tree: self })
+        !self.calls_well(i, self.functions.bytes.node(i))
+    }
+
+    /// Refuses the lowest node that breaks rule 8.
+    pub fn calls_fit(&self) -> Result<(), ReadingFault>
+        ensures { told result ≡ rule8 (tree_code self.now) }
+    {
+        let n = self.functions.bytes.node_count();
+        where_broken(n, |i| self.breaks_call(i), |i| ReadingFault::Miscalled(i))
     }
 }

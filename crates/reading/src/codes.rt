@@ -1,45 +1,39 @@
 //! Rule 6, of codes and operands.
 ghost use Rattle.std.specs.Prelude.{◌≡◌, length};
 ghost use Rattle.levels.specs.Scan.{lowest};
-ghost use Rattle.reading.specs.Meaning.{code_of};
-ghost use Rattle.reading.specs.CodeRule.{past, slot_broken, code_broken};
+ghost use Rattle.reading.specs.CodeRule.{past, code_broken};
+ghost use Rattle.reading.specs.ReadingRefusal.{told};
+ghost use Rattle.reading.specs.Trees.{tree_code};
+ghost use Rattle.reading.specs.Verdict.{rule6};
 
+use crate::fault::ReadingFault;
 use crate::owners::Owners;
-use layout::decode;
-use levels::scan::{Test, lowest};
+use crate::refuse::where_broken;
+use layout::entry::Entry;
+use layout::node::Node;
 
 fn past(slots: u8, slot: Option<u8>) -> bool
     ensures { result ≡ past slots slot }
 {
-    match slot {
-        None => false,
-        Some(a) => slots <= a,
-    }
-}
-
-// Whether the node has an unknown code, an unused operand that is not 0, or a slot that its function has not.
-#[derive(Drop)]
-struct Codes<'t, 'a> {
-    tree: &'t Owners<'a>,
-}
-
-impl<'t, 'a> Test for Codes<'t, 'a> {
-    ghost passes = { λ s i. code_broken s.tree.now.bytes.nodes.now (code_of s.tree.now.bytes) i };
-
-    fn test(&self, i: u16) -> bool {
-        let bytes = self.tree.bytes;
-        match decode::node(bytes.nodes, i) {
-            None => true,
-            Some(node) => past(self.tree.own(i).slots, node.slot()),
-        }
-    }
+    slot.is_some_and(|a| slots <= a)
 }
 
 impl<'a> Owners<'a> {
-    // The lowest node that breaks rule 6.
-    pub fn malformed(&self) -> Option<u16>
-        ensures { result ≡ lowest (length (code_of self.now.bytes).nodes) (code_broken self.now.bytes.nodes.now (code_of self.now.bytes)) }
+    // Whether the node has an unknown code, an unused operand that is not 0, or a slot that its function has not.
+    fn breaks_code(&self, i: u16) -> bool
+        ensures { result ≡ code_broken self.now.functions.bytes.lists.nodes.now (tree_code self.now) i }
     {
-        lowest(self.bytes.node_count(), &Codes { tree: self })
+        match Node::at(self.functions.bytes.lists.nodes, i) {
+            None => true,
+            Some(node) => past(self.own(i).slots, node.slot()),
+        }
+    }
+
+    /// Refuses the lowest node that breaks rule 6.
+    pub fn codes_fit(&self) -> Result<(), ReadingFault>
+        ensures { told result ≡ rule6 self.now.functions.bytes.lists.nodes.now (tree_code self.now) }
+    {
+        let n = self.functions.bytes.node_count();
+        where_broken(n, |i| self.breaks_code(i), |i| ReadingFault::Malformed(i))
     }
 }

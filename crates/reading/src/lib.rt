@@ -5,6 +5,7 @@ mod bytes;
 mod calls;
 mod codes;
 pub mod fault;
+mod functions;
 mod judge;
 mod laws;
 mod marks;
@@ -12,6 +13,7 @@ mod names;
 mod owners;
 pub mod program;
 mod records;
+mod refuse;
 mod scopes;
 mod view;
 

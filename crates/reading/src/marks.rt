@@ -1,22 +1,28 @@
 //! Rule 9, of how often each node is named.
 ghost use Rattle.std.specs.Prelude.{◌≡◌, ℕ, ◌+◌, ◌<◌, length, slice_index};
 ghost use Rattle.levels.specs.Scan.{lowest};
-ghost use Rattle.layout.specs.Tree.{hit, namings};
+ghost use Rattle.layout.specs.Tree.{target, hit, namings};
 ghost use Rattle.reading.specs.Meaning.{code_of};
 ghost use Rattle.reading.specs.OnceRule.{once_broken};
+ghost use Rattle.reading.specs.ReadingRefusal.{told};
+ghost use Rattle.reading.specs.Trees.{tree_code};
+ghost use Rattle.reading.specs.Verdict.{rule9};
 
 use crate::bytes::Bytes;
+use crate::fault::ReadingFault;
 use crate::owners::Owners;
-use levels::scan::{Test, lowest};
+use crate::refuse::where_broken;
+use layout::parts::Part;
 
 // Counts one naming more.
-fn mark(marks: &mut [u16; 4096], target: Option<u16>)
+fn mark(marks: &mut [u16; 4096], part: Option<Part>)
     requires { (j : ℕ) → j < 4096 → slice_index marks.old j < 65535 }
-    ensures { (j : ℕ) → j < 4096 → slice_index marks.new j ≡ slice_index marks.old j + hit target j }
+    ensures { (j : ℕ) → j < 4096 → slice_index marks.new j ≡ slice_index marks.old j + hit (target part) j }
 {
-    if let Some(b) = target {
-        if b < 4096 {
-            marks[b as usize] += 1;
+    if let Some(Part { node, .. }) = part {
+        // By index: after `get_mut` a proof knows nothing of the other marks.
+        if node < 4096 {
+            marks[node as usize] += 1;
         }
     }
 }
@@ -27,46 +33,57 @@ impl<'a> Bytes<'a> {
         ensures { (j : ℕ) → j < 4096 → slice_index result j ≡ namings (code_of self.now) (length (code_of self.now).nodes) j }
     {
         let mut marks = [0; 4096];
+        // By number: nodes are decoded as they are asked for, since the verdict has no heap for a list of them.
         for i in 0..self.node_count() {
             let parts = self.node(i).parts();
-            mark(&mut marks, parts.0.target());
-            mark(&mut marks, parts.1.target());
-            mark(&mut marks, parts.2.target());
+            mark(&mut marks, parts.0);
+            mark(&mut marks, parts.1);
+            mark(&mut marks, parts.2);
         }
         marks
     }
 }
 
-// Whether the node is no body and not named exactly once.
+// How often each node of a tree is named.
 #[derive(Drop)]
 struct Marks<'t, 'a> {
     tree: &'t Owners<'a>,
+    // Fixed memory: the verdict wants no heap.
     marks: [u16; 4096],
-    ghost counted: { (j : ℕ) → j < 4096 → slice_index marks j ≡ namings (code_of tree.now.bytes) (length (code_of tree.now.bytes).nodes) j },
+    ghost counted: { (j : ℕ) → j < 4096 → slice_index marks j ≡ namings (tree_code tree.now) (length (tree_code tree.now).nodes) j },
 }
 
 impl<'t, 'a> Marks<'t, 'a> {
-    fn new(tree: &'t Owners<'a>) -> Marks<'t, 'a>
-        ensures { result.tree.now ≡ tree.now }
+    // Whether the node is no body and not named exactly once.
+    fn breaks_once(&self, j: u16) -> bool
+        ensures { result ≡ once_broken (tree_code self.now.tree.now) j }
     {
-        let marks = tree.bytes.marks();
-        Marks { tree, marks }
-    }
-}
-
-impl<'t, 'a> Test for Marks<'t, 'a> {
-    ghost passes = { λ s j. once_broken (code_of s.tree.now.bytes) j };
-
-    fn test(&self, j: u16) -> bool {
-        j < self.tree.bytes.node_count() && !self.tree.is_body(j) && self.marks[j as usize] != 1
+        j < self.tree.functions.bytes.node_count()
+            && !self.tree.is_body(j)
+            && self.marks[j as usize] != 1
     }
 }
 
 impl<'a> Owners<'a> {
-    // The lowest node that breaks rule 9.
-    pub fn not_named_once(&self) -> Option<u16>
-        ensures { result ≡ lowest (length (code_of self.now.bytes).nodes) (once_broken (code_of self.now.bytes)) }
+    fn marks(&self) -> Marks<'_, 'a>
+        ensures { result.tree.now ≡ self.now }
     {
-        lowest(self.bytes.node_count(), &Marks::new(self))
+        Marks {
+            tree: self,
+            marks: self.functions.bytes.marks(),
+        }
+    }
+
+    /// Refuses the lowest node that breaks rule 9.
+    pub fn named_once(&self) -> Result<(), ReadingFault>
+        ensures { told result ≡ rule9 (tree_code self.now) }
+    {
+        let marks = self.marks();
+        let n = self.functions.bytes.node_count();
+        where_broken(
+            n,
+            |j| marks.breaks_once(j),
+            |j| ReadingFault::NotNamedOnce(j),
+        )
     }
 }

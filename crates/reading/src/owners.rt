@@ -1,101 +1,66 @@
-//! The functions, decoded once, and which of them each node belongs to.
-ghost use Rattle.std.specs.Prelude.{◌≡◌, ℕ, ◌<◌, false, length, slice_index, slice_index_or};
-ghost use Rattle.layout.specs.Code.{no_function, function, body, start, owner};
+//! Which function each node belongs to.
+ghost use Rattle.std.specs.Prelude.{◌≡◌, ℕ, length, IfOk, slice_index};
+ghost use Rattle.levels.specs.Scan.{lowest};
+ghost use Rattle.layout.specs.Code.{function, owner};
 ghost use Rattle.reading.specs.Meaning.{code_of};
 ghost use Rattle.reading.specs.RecordRule.{record_broken};
+ghost use Rattle.reading.specs.ReadingRefusal.{told};
+ghost use Rattle.reading.specs.Sound.{Placed};
+ghost use Rattle.reading.specs.Verdict.{rule5};
 
-use crate::bytes::Bytes;
-use crate::view::no_function;
+use crate::fault::ReadingFault;
+use crate::functions::Functions;
 use layout::decode;
 use layout::function::Function;
 
-// Bytes whose function records are good.
+/// Byte lists whose function records are good, with the function that each node belongs to.
 #[derive(Drop)]
 pub struct Owners<'a> {
-    pub bytes: Bytes<'a>,
-    functions: [Function; 64],
+    pub functions: Functions<'a>,
+    // Fixed memory: the verdict wants no heap.
     owners: [u8; 4096],
-    ghost sized: { length functions ≡ 64 },
-    ghost held: { (g : ℕ) → slice_index_or functions g no_function ≡ function (code_of bytes) g },
-    ghost known: { (i : ℕ) → slice_index owners i ≡ owner (code_of bytes) i },
+    ghost known: { (i : ℕ) → slice_index owners i ≡ owner (code_of functions.bytes) i },
 }
 
-impl<'a> Bytes<'a> {
-    fn functions(&self) -> [Function; 64]
-        ensures size { length result ≡ 64 }
-        ensures held { (g : ℕ) → slice_index_or result g no_function ≡ function (code_of self.now) g }
-    {
-        let mut functions = [no_function(); 64];
-        for g in 0..self.function_count() {
-            functions[g as usize] = self.function(g);
-        }
-        functions
-    }
-
-    // The function of each node: that of the one before, unless it has ended.
+impl<'a> Functions<'a> {
+    // The function of each node: each from after the one before to its own body.
     fn owners(&self) -> [u8; 4096]
-        requires { (g : ℕ) → g < length (code_of self.now).functions → record_broken self.now.functions.now (code_of self.now) g ≡ false }
-        ensures { (i : ℕ) → slice_index result i ≡ owner (code_of self.now) i }
+        requires { Placed (code_of self.now.bytes) }
+        ensures { (i : ℕ) → slice_index result i ≡ owner (code_of self.now.bytes) i }
     {
         let mut owners = [0; 4096];
-        let mut g: u8 = 0;
-        let mut end = self.body(0);
-        for i in 0..self.node_count() {
-            if end < i {
-                g += 1;
-                end = self.body(g as u16);
-            }
-            owners[i as usize] = g;
+        let mut start = 0;
+        for g in 0..self.bytes.function_count() {
+            let end = self.function(g).body as usize + 1;
+            owners[start..end].fill(g as u8);
+            start = end;
         }
         owners
     }
 }
 
 impl<'a> Owners<'a> {
-    pub fn new(bytes: Bytes<'a>) -> Owners<'a>
-        requires { (g : ℕ) → g < length (code_of bytes).functions → record_broken bytes.functions.now (code_of bytes) g ≡ false }
-        ensures { result.bytes ≡ bytes.entry }
+    /// Refuses the lowest function that breaks rule 5.
+    pub fn new(functions: Functions<'a>) -> Result<Owners<'a>, ReadingFault>
+        ensures refuses { told result ≡ rule5 functions.entry.bytes.lists.functions.now (code_of functions.entry.bytes) }
+        ensures of { IfOk result (λ o. o.functions.bytes ≡ functions.entry.bytes) }
     {
-        let functions = bytes.functions();
-        let owners = bytes.owners();
-        Owners {
-            bytes,
-            functions,
-            owners,
-        }
+        functions.records_fit()?;
+        let owners = functions.owners();
+        Ok(Owners { functions, owners })
     }
 
-    pub fn function(&self, g: u16) -> Function
-        ensures { result ≡ function (code_of self.now.bytes) g }
-    {
-        if g < 64 {
-            self.functions[g as usize]
-        } else {
-            no_function()
-        }
-    }
-
-    // The first node of a function.
-    pub fn start(&self, g: u16) -> u32
-        ensures { result ≡ start (code_of self.now.bytes) g }
-    {
-        if g == 0 {
-            0
-        } else {
-            self.function(g - 1).body as u32 + 1
-        }
-    }
-
-    // The function that node i belongs to, by number and itself.
+    /// The function that node i belongs to, by number.
     pub fn owner(&self, i: u16) -> u16
-        ensures { result ≡ owner (code_of self.now.bytes) i }
+        ensures { result ≡ owner (code_of self.now.functions.bytes) i }
     {
         decode::byte(&self.owners, i as usize) as u16
     }
 
+    /// The function that node i belongs to.
     pub fn own(&self, i: u16) -> Function
-        ensures { result ≡ function (code_of self.now.bytes) (owner (code_of self.now.bytes) i) }
+        ensures { result ≡ function (code_of self.now.functions.bytes) (owner (code_of self.now.functions.bytes) i) }
     {
-        self.function(self.owner(i))
+        self.functions.function(self.owner(i))
     }
 }

@@ -1,16 +1,21 @@
 //! Rule 10, of where slots may be used.
 ghost use Rattle.std.specs.Prelude.{◌≡◌, ℕ, ◌+◌, ◌<◌, false, length, if◌then◌else◌, Some, None, nat_lt, slice_index, slice_index_or};
 ghost use Rattle.levels.specs.Scan.{lowest};
-ghost use Rattle.layout.specs.Tree.{hit};
+ghost use Rattle.layout.specs.Tree.{target, hit};
 ghost use Rattle.reading.specs.Meaning.{code_of};
-ghost use Rattle.reading.specs.NamingRule.{naming_broken};
 ghost use Rattle.reading.specs.ScopeRule.{parent, adding, holds, within_command, within, scope, usable};
 ghost use Rattle.reading.specs.ScopeRule.{expression_scoped, command_scoped, scoped, scope_broken};
+ghost use Rattle.reading.specs.ReadingRefusal.{told};
+ghost use Rattle.reading.specs.Trees.{tree_code};
+ghost use Rattle.reading.specs.Verdict.{rule10};
 
 use crate::bytes::Bytes;
+use crate::fault::ReadingFault;
+use crate::names::Named;
 use crate::owners::Owners;
+use crate::refuse::where_broken;
 use layout::node::{Command, Expression, Node};
-use levels::scan::{Test, lowest};
+use layout::parts::Part;
 
 fn adding(a: u8, set: u16) -> u16
     ensures { result ≡ adding a set }
@@ -34,13 +39,14 @@ fn within(node: Node, j: u16, set: u16) -> u16
     }
 }
 
-// Notes that the node i names the target.
-fn adopt(parents: &mut [Option<u16>; 4096], target: Option<u16>, i: u16)
-    ensures { (j : ℕ) → j < 4096 → slice_index_or parents.new j None ≡ (if nat_lt 0 (hit target j) then Some i else slice_index_or parents.old j None) }
+// Notes that the node i names the part.
+fn adopt(parents: &mut [Option<u16>; 4096], part: Option<Part>, i: u16)
+    ensures { (j : ℕ) → j < 4096 → slice_index_or parents.new j None ≡ (if nat_lt 0 (hit (target part) j) then Some i else slice_index_or parents.old j None) }
 {
-    if let Some(b) = target {
-        if b < 4096 {
-            parents[b as usize] = Some(i);
+    if let Some(Part { node, .. }) = part {
+        // By index: after `get_mut` a proof knows nothing of the other parents.
+        if node < 4096 {
+            parents[node as usize] = Some(i);
         }
     }
 }
@@ -51,58 +57,71 @@ impl<'a> Bytes<'a> {
         ensures { (j : ℕ) → j < 4096 → slice_index_or result j None ≡ parent (code_of self.now) (length (code_of self.now).nodes) j }
     {
         let mut parents = [None; 4096];
+        // By number, and apart from the pass of the marks: a closure for both would hide from the proof what it writes.
         for i in 0..self.node_count() {
             let parts = self.node(i).parts();
-            adopt(&mut parents, parts.0.target(), i);
-            adopt(&mut parents, parts.1.target(), i);
-            adopt(&mut parents, parts.2.target(), i);
+            adopt(&mut parents, parts.0, i);
+            adopt(&mut parents, parts.1, i);
+            adopt(&mut parents, parts.2, i);
         }
         parents
     }
+}
 
+impl<'t, 'a> Named<'t, 'a> {
     // The locals usable at each node.
     fn scopes(&self) -> [u16; 4096]
-        requires { (i : ℕ) → i < length (code_of self.now).nodes → naming_broken (code_of self.now) i ≡ false }
-        ensures { (j : ℕ) → j < length (code_of self.now).nodes → slice_index result j ≡ scope (code_of self.now) (length (code_of self.now).nodes) j }
+        ensures { (j : ℕ) → j < length (tree_code self.now.tree.now).nodes → slice_index result j ≡ scope (tree_code self.now.tree.now) (length (tree_code self.now.tree.now).nodes) j }
     {
-        let parents = self.parents();
+        let bytes = self.tree.functions.bytes;
+        let parents = bytes.parents();
         let mut scopes = [0; 4096];
-        for j in (0..self.node_count()).rev() {
+        // By number: each place is worked out from that of the node that names it.
+        for j in (0..bytes.node_count()).rev() {
             if let Some(p) = parents[j as usize] {
-                scopes[j as usize] = within(self.node(p), j, scopes[p as usize]);
+                scopes[j as usize] = within(bytes.node(p), j, scopes[p as usize]);
             }
         }
         scopes
     }
+
+    /// Refuses the lowest node that breaks rule 10.
+    pub fn scopes_fit(&self) -> Result<(), ReadingFault>
+        ensures { told result ≡ rule10 (tree_code self.now.tree.now) }
+    {
+        let scopes = Scopes {
+            tree: self.tree,
+            scopes: self.scopes(),
+        };
+        let n = self.tree.functions.bytes.node_count();
+        where_broken(
+            n,
+            |i| scopes.breaks_scope(i),
+            |i| ReadingFault::OutOfScope(i),
+        )
+    }
 }
 
-// Whether the node uses a slot that is not usable there, or is a let of one that is.
+// The locals usable at each node of a tree. Not one type with the marks: what is known of the numbers differs.
 #[derive(Drop)]
 struct Scopes<'t, 'a> {
     tree: &'t Owners<'a>,
+    // Fixed memory: the verdict wants no heap.
     scopes: [u16; 4096],
-    ghost filled: { (j : ℕ) → j < length (code_of tree.now.bytes).nodes → slice_index scopes j ≡ scope (code_of tree.now.bytes) (length (code_of tree.now.bytes).nodes) j },
+    ghost filled: { (j : ℕ) → j < length (tree_code tree.now).nodes → slice_index scopes j ≡ scope (tree_code tree.now) (length (tree_code tree.now).nodes) j },
 }
 
 impl<'t, 'a> Scopes<'t, 'a> {
-    fn new(tree: &'t Owners<'a>) -> Scopes<'t, 'a>
-        requires { (i : ℕ) → i < length (code_of tree.now.bytes).nodes → naming_broken (code_of tree.now.bytes) i ≡ false }
-        ensures { result.tree.now ≡ tree.now }
-    {
-        let scopes = tree.bytes.scopes();
-        Scopes { tree, scopes }
-    }
-
     fn usable(&self, i: u16, a: u8) -> bool
-        requires { i < length (code_of self.now.tree.now.bytes).nodes }
-        ensures { result ≡ usable (code_of self.now.tree.now.bytes) i a }
+        requires { i < length (tree_code self.now.tree.now).nodes }
+        ensures { result ≡ usable (tree_code self.now.tree.now) i a }
     {
         a <= self.tree.own(i).parameters || holds(self.scopes[i as usize], a)
     }
 
     fn scoped(&self, i: u16, node: Node) -> bool
-        requires { i < length (code_of self.now.tree.now.bytes).nodes }
-        ensures { result ≡ scoped (code_of self.now.tree.now.bytes) i node }
+        requires { i < length (tree_code self.now.tree.now).nodes }
+        ensures { result ≡ scoped (tree_code self.now.tree.now) i node }
     {
         match node {
             Node::Expression(Expression::Slot(slot)) => self.usable(i, slot),
@@ -112,22 +131,12 @@ impl<'t, 'a> Scopes<'t, 'a> {
             _ => true,
         }
     }
-}
 
-impl<'t, 'a> Test for Scopes<'t, 'a> {
-    ghost passes = { λ s i. scope_broken (code_of s.tree.now.bytes) i };
-
-    fn test(&self, i: u16) -> bool {
-        i < self.tree.bytes.node_count() && !self.scoped(i, self.tree.bytes.node(i))
-    }
-}
-
-impl<'a> Owners<'a> {
-    // The lowest node that breaks rule 10.
-    pub fn out_of_scope(&self) -> Option<u16>
-        requires { (i : ℕ) → i < length (code_of self.now.bytes).nodes → naming_broken (code_of self.now.bytes) i ≡ false }
-        ensures { result ≡ lowest (length (code_of self.now.bytes).nodes) (scope_broken (code_of self.now.bytes)) }
+    // Whether the node uses a slot that is not usable there, or is a let of one that is.
+    fn breaks_scope(&self, i: u16) -> bool
+        ensures { result ≡ scope_broken (tree_code self.now.tree.now) i }
     {
-        lowest(self.bytes.node_count(), &Scopes::new(self))
+        let bytes = self.tree.functions.bytes;
+        i < bytes.node_count() && !self.scoped(i, bytes.node(i))
     }
 }

@@ -7,18 +7,12 @@
 ghost use Rattle.std.specs.Prelude.{◌<◌, length, IfSome};
 
 use anyhow::anyhow;
+use layout::lists::OwnedLists;
 use levels::refusal::Fault;
 use reading::program::Program;
 use reading::program::read::read_program;
 use std::alloc::{AllocError, Global};
 use std::io::{BufRead, BufReader};
-
-#[derive(Drop)]
-struct Case {
-    nodes: Vec<u8>,
-    functions: Vec<u8>,
-    apps: Vec<u8>,
-}
 
 fn digit(c: u8) -> Option<u8>
     ensures { IfSome result (λ d. d < 16) }
@@ -56,15 +50,13 @@ fn group(heap: Global, text: &str) -> anyhow::Result<Vec<u8>> {
     Ok(list)
 }
 
-// Adds two numbers of as many bytes, the highest first.
+// Adds a number to another of as many bytes, the highest first.
 fn add(number: &mut [u8], step: &[u8]) {
     let mut carry = 0u16;
-    for i in (0..number.len()).rev() {
-        if i < step.len() {
-            let sum = (number[i] as u16 + step[i] as u16).wrapping_add(carry);
-            number[i] = (sum % 256) as u8;
-            carry = sum / 256;
-        }
+    for (byte, more) in number.iter_mut().zip(step).rev() {
+        let sum = (*byte as u16 + *more as u16).wrapping_add(carry);
+        *byte = (sum % 256) as u8;
+        carry = sum / 256;
     }
 }
 
@@ -82,23 +74,11 @@ fn repeat(
 }
 
 fn put(heap: Global, list: &mut Vec<u8>, word: &str) -> anyhow::Result<()> {
-    match word.split_once('*') {
-        None => repeat(list, group(heap, word)?, 1, Vec::new(heap))?,
-        Some((entry, rest)) => match rest.split_once('+') {
-            None => repeat(
-                list,
-                group(heap, entry)?,
-                rest.parse::<u32>()?,
-                Vec::new(heap),
-            )?,
-            Some((times, step)) => repeat(
-                list,
-                group(heap, entry)?,
-                times.parse::<u32>()?,
-                group(heap, step)?,
-            )?,
-        },
-    }
+    let (entry, rest) = word.split_once('*').unwrap_or((word, "1"));
+    let (times, step) = rest.split_once('+').unwrap_or((rest, ""));
+    let entry = group(heap, entry)?;
+    let step = group(heap, step)?;
+    repeat(list, entry, times.parse::<u32>()?, step)?;
     Ok(())
 }
 
@@ -110,33 +90,25 @@ fn list(heap: Global, words: &str) -> anyhow::Result<Vec<u8>> {
     Ok(bytes)
 }
 
-fn read_case(heap: Global, text: &str) -> anyhow::Result<Case> {
-    match text.split_once('/') {
-        None => Err(anyhow!("no functions")),
-        Some((nodes, rest)) => match rest.split_once('/') {
-            None => Err(anyhow!("no apps")),
-            Some((functions, apps)) => Ok(Case {
-                nodes: list(heap, nodes)?,
-                functions: list(heap, functions)?,
-                apps: list(heap, apps)?,
-            }),
-        },
-    }
+fn read_case(heap: Global, text: &str) -> anyhow::Result<OwnedLists> {
+    let (nodes, rest) = text.split_once('/').ok_or_else(|| anyhow!("no functions"))?;
+    let (functions, apps) = rest.split_once('/').ok_or_else(|| anyhow!("no apps"))?;
+    Ok(OwnedLists {
+        nodes: list(heap, nodes)?,
+        functions: list(heap, functions)?,
+        apps: list(heap, apps)?,
+    })
 }
 
 // Whether writing the program gives the case's bytes back.
-fn written_back(heap: Global, program: &Program, case: &Case) -> Result<bool, AllocError> {
+fn written_back(heap: Global, program: &Program, case: &OwnedLists) -> Result<bool, AllocError> {
     let written = program.write(heap)?;
-    Ok(
-        written.nodes.as_slice() == case.nodes.as_slice()
-            && written.functions.as_slice() == case.functions.as_slice()
-            && written.apps.as_slice() == case.apps.as_slice(),
-    )
+    Ok(written == *case)
 }
 
-fn show(rt: &HostRuntime, name: &str, case: &Case) -> anyhow::Result<()> {
+fn show(rt: &HostRuntime, name: &str, case: &OwnedLists) -> anyhow::Result<()> {
     let heap = rt.alloc();
-    match read_program(heap, &case.nodes, &case.functions, &case.apps) {
+    match read_program(heap, case.view()) {
         Err(fault) => {
             let refusal = fault.refusal();
             println!(rt; "{name}: {refusal}")?;

@@ -11,13 +11,9 @@ fn told(
 ) -> Result<(), Fail> {
     let (left, ended) = perform(rt.alloc(), script);
     assert_eq!(rt; left.bytes(), transcript);
-    match ended {
-        Ok(()) => Err(Fail::new("the script is not at fault")),
-        Err(found) => {
-            assert!(rt; found.to_string(rt.alloc())?.as_str() == fault, "{}", fault);
-            Ok(())
-        },
-    }
+    let found = ended.err().ok_or("the script is not at fault")?;
+    assert_eq!(rt; found.to_string(rt.alloc())?.as_str(), fault);
+    Ok(())
 }
 
 #[test]
@@ -114,5 +110,18 @@ fn closes(rt: HostRuntime) {
     assert_eq!(rt;
         left.bytes(),
         b"scenario a\nlattice: made\npolicy: made\ntype 0: 0/0/2 0/0/2\nfigure 0: 1/255/3\ndone: 1 scenarios, 1 policies made and 0 refused, 0 programs accepted and 0 refused, 0 runs with a result and 0 cut\n".as_slice()
+    );
+}
+
+#[test]
+fn programs_in_bytes(rt: HostRuntime) {
+    let (left, ended) = perform(
+        rt.alloc(),
+        b"scenario a\nnodes 0 a\nfunctions ff 0B\napps\napps 7f\nclear",
+    );
+    assert!(rt; ended.is_ok());
+    assert_eq!(rt;
+        left.bytes(),
+        b"scenario a\ndone: 1 scenarios, 0 policies made and 0 refused, 0 programs accepted and 0 refused, 0 runs with a result and 0 cut\n".as_slice()
     );
 }

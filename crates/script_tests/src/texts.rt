@@ -4,18 +4,7 @@ use scripts::number::number;
 use scripts::parts::Parts;
 use scripts::pieces::Pieces;
 use scripts::words::{Words, without_comment};
-use std::process::Abort;
 use std::test::Fail;
-
-fn is(rt: &impl Abort, found: Option<&[u8]>, wanted: &[u8]) -> Result<(), Fail> {
-    match found {
-        Some(text) => {
-            assert_eq!(rt; text, wanted);
-            Ok(())
-        },
-        None => Err(Fail::new("nothing is left")),
-    }
-}
 
 #[test]
 fn numbers_at_the_edges(rt: HostRuntime) {
@@ -40,23 +29,21 @@ fn no_numbers(rt: HostRuntime) {
 }
 
 #[test]
-fn words_of_a_line(rt: HostRuntime) -> Result<(), Fail> {
+fn words_of_a_line(rt: HostRuntime) {
     let mut words = Words::new(without_comment(b"  book\t1   row\r # a comment # more"));
-    is(&rt, words.next(), b"book\t1")?;
-    is(&rt, words.next(), b"row\r")?;
+    assert_eq!(rt; words.next(), Some(b"book\t1".as_slice()));
+    assert_eq!(rt; words.next(), Some(b"row\r".as_slice()));
     assert!(rt; words.next().is_none());
     assert!(rt; words.next().is_none());
-    Ok(())
 }
 
 #[test]
-fn lines_of_a_script(rt: HostRuntime) -> Result<(), Fail> {
+fn lines_of_a_script(rt: HostRuntime) {
     let mut lines = Pieces::new(b"first\n\nlast", b'\n');
-    is(&rt, lines.next(), b"first")?;
-    is(&rt, lines.next(), b"")?;
-    is(&rt, lines.next(), b"last")?;
+    assert_eq!(rt; lines.next(), Some(b"first".as_slice()));
+    assert_eq!(rt; lines.next(), Some(b"".as_slice()));
+    assert_eq!(rt; lines.next(), Some(b"last".as_slice()));
     assert!(rt; lines.next().is_none());
-    Ok(())
 }
 
 #[test]

@@ -1,66 +1,43 @@
--- How a text's pieces go on after the first, and that a word's bytes are those that are no space. Assumes nothing.
-use Rattle.std.proofs.Common.{◌≡◌, ℕ, ◌+◌, ◌-◌, ◌<◌, ◌≤◌, true, false, cond, not, eqb, List, [], ◌∷◌, length, take, drop, sym, refl, ap, ◌∙◌, ap₂, add-one, one-add, arith}
-use native.Mathlib.Nat.{sub-zero}
-use Rattle.std.specs.List.{prefix_len, AllByRecursion}
-use Rattle.std.proofs.lemmas.Bool.{eqb-true, eqb-false}
-use Rattle.std.proofs.lemmas.List.{take_all, take_rest}
-use Rattle.scripts.specs.Pieces.{onto, pieces_of, with_marks, Cuts, other}
+-- A text cut at its first mark, and that no piece has a mark in it. Assumes nothing.
+use Rattle.std.proofs.Common.{◌≡◌, ℕ, ◌+◌, ◌-◌, ◌<◌, ◌≤◌, Bool, ltb, true, false, cond, eqb, List, [], ◌∷◌, length, take, drop, Some, None, refl, arith}
+use Rattle.std.specs.List.{AllByRecursion, onto_first, position, position_or_len}
+use Rattle.std.proofs.lemmas.Bool.{eqb-false, ltb-true, ltb-false}
+use Rattle.std.proofs.lemmas.List.{take_rest}
+use Rattle.std.proofs.lemmas.List.Sums.{fails_before_first}
+use Rattle.std.proofs.lemmas.List.Splits.{slice_split_first, slice_split_none, join_with_byte-slice_split}
+use Rattle.scripts.specs.Pieces.{pieces_of, Cuts}
 
--- the pieces after the first mark
-abbrev pub following : ℕ → List ℕ → List (List ℕ)
-following mark [] = []
-following mark (x ∷ xs) = cond (eqb x mark) (pieces_of mark xs) (following mark xs)
+-- what `position` finds
+pub found : {X : Type 0} (p : X → Bool) (xs : List X) (n : ℕ) → Some n ≡ position p xs → (n ≡ position_or_len p xs) × (n < length xs)
+found p xs n e = elim (ltb (position_or_len p xs) (length xs))
+    as (λ b. ltb (position_or_len p xs) (length xs) ≡ b → Some n ≡ cond b (Some (position_or_len p xs)) None → (n ≡ position_or_len p xs) × (n < length xs)) [
+      | true ↦ (λ t k. let same : n ≡ position_or_len p xs = cc in (same, omega (arith, ltb-true _ _ t)))
+      | false ↦ (λ t k. let z : ◌≡◌ {A = ℕ} 0 1 = cc in absurd (omega arith))
+    ] refl e
+
+pub missed : {X : Type 0} (p : X → Bool) (xs : List X) → None ≡ position p xs → length xs ≤ position_or_len p xs
+missed p xs e = elim (ltb (position_or_len p xs) (length xs))
+    as (λ b. ltb (position_or_len p xs) (length xs) ≡ b → None ≡ cond b (Some (position_or_len p xs)) None → length xs ≤ position_or_len p xs)
+    [ true ↦ (λ _ k. let z : ◌≡◌ {A = ℕ} 0 1 = cc in absurd (omega arith)) | false ↦ (λ t _. ltb-false _ _ t) ] refl e
 
 module _ (mark : ℕ) where
-  pub cut : (xs : List ℕ) → pieces_of mark xs ≡ take (prefix_len (other mark) xs) xs ∷ following mark xs
-  cut [] = refl
-  cut (x ∷ xs) = elim (eqb x mark)
-      as (λ b. cond b ([] ∷ pieces_of mark xs) (onto x (pieces_of mark xs))
-      ≡ take (cond (not b) (1 + prefix_len (other mark) xs) 0) (x ∷ xs) ∷ cond b (pieces_of mark xs) (following mark xs))
-      [ true ↦ refl | false ↦ rw (one-add, cut xs) refl ]
+  -- the two ways of a cut
+  pub cut_mark : (xs : List ℕ) (n : ℕ) → Some n ≡ position (λ x. eqb x mark) xs
+      → pieces_of mark xs ≡ take n xs ∷ pieces_of mark (take (length xs - (n + 1)) (drop (n + 1) xs))
+  cut_mark xs n e =
+      let p = found (λ x. eqb x mark) xs n e in
+      let k : position_or_len (λ x. eqb x mark) xs < length xs = omega arith in
+      rw (take_rest, p.0, slice_split_first (λ x. eqb x mark) xs 0 k)
 
-  pub following_mark : (xs : List ℕ) → prefix_len (other mark) xs < length xs → following mark xs ≡ pieces_of mark (drop (prefix_len (other mark) xs + 1) xs)
-  following_mark [] h = absurd (omega arith)
-  following_mark (x ∷ xs) h = elim (eqb x mark)
-      as (λ b. cond (not b) (1 + prefix_len (other mark) xs) 0 < length (x ∷ xs) → cond b (pieces_of mark xs) (following mark xs)
-      ≡ pieces_of mark (drop (cond (not b) (1 + prefix_len (other mark) xs) 0 + 1) (x ∷ xs)))
-      [ true ↦ (λ _. refl) | false ↦ (λ k. let s : prefix_len (other mark) xs < length xs = omega arith in rw (add-one, one-add) (following_mark xs s ∙ ap (λ n. pieces_of mark (drop n xs)) (add-one (prefix_len (other mark) xs)))) ] h
-
-  pub following_end : (xs : List ℕ) → length xs ≤ prefix_len (other mark) xs → following mark xs ≡ []
-  following_end [] h = refl
-  following_end (x ∷ xs) h = elim (eqb x mark)
-      as (λ b. length (x ∷ xs) ≤ cond (not b) (1 + prefix_len (other mark) xs) 0 → cond b (pieces_of mark xs) (following mark xs) ≡ [])
-      [ true ↦ (λ k. absurd (omega arith)) | false ↦ (λ k. following_end xs (omega arith)) ] h
-
-  -- the two ways of a cut, at n bytes before the first mark
-  pub cut_mark : (xs : List ℕ) (n : ℕ) → n ≡ prefix_len (other mark) xs → n < length xs
-      → pieces_of mark xs ≡ take (n - 0) xs ∷ pieces_of mark (take (length xs - (n + 1)) (drop (n + 1) xs))
-  cut_mark xs n e h =
-      let k : prefix_len (other mark) xs < length xs = omega arith in
-      rw (take_rest, sub-zero, e, cut xs, following_mark xs k) refl
-
-  pub cut_end : (xs : List ℕ) (n : ℕ) → n ≡ prefix_len (other mark) xs → length xs ≤ n → pieces_of mark xs ≡ xs ∷ []
-  cut_end xs n e h =
-      let k : length xs ≤ prefix_len (other mark) xs = omega arith in
-      cut xs ∙ ap₂ (λ a b. a ∷ b) (take_all _ xs k) (following_end xs k)
-
-  -- the law of the pieces
-  whole_onto : (x : ℕ) (p : List ℕ) (ps : List (List ℕ)) → with_marks mark (onto x (p ∷ ps)) ≡ x ∷ with_marks mark (p ∷ ps)
-  whole_onto x p [] = refl
-  whole_onto x p (q ∷ ps) = refl
-
-  whole : (xs : List ℕ) → with_marks mark (pieces_of mark xs) ≡ xs
-  whole [] = refl
-  whole (x ∷ xs) = elim (eqb x mark)
-      as (λ b. eqb x mark ≡ b → with_marks mark (cond b ([] ∷ pieces_of mark xs) (onto x (pieces_of mark xs))) ≡ x ∷ xs) [
-        | true ↦ (λ e. ap (λ l. with_marks mark ([] ∷ l)) (cut xs) ∙ ap₂ (λ y l. y ∷ l) (sym (eqb-true x mark e)) (ap (with_marks mark) (sym (cut xs)) ∙ whole xs))
-        | false ↦ (λ e. ap (λ l. with_marks mark (onto x l)) (cut xs) ∙ whole_onto x _ _ ∙ ap (λ l. x ∷ l) (ap (with_marks mark) (sym (cut xs)) ∙ whole xs))
-      ] refl
+  pub cut_end : (xs : List ℕ) → None ≡ position (λ x. eqb x mark) xs → pieces_of mark xs ≡ xs ∷ []
+  cut_end xs e =
+      let all : length xs ≤ position_or_len (λ x. eqb x mark) xs = missed (λ x. eqb x mark) xs e in
+      slice_split_none (λ x. eqb x mark) xs (λ k d h. fails_before_first (λ x. eqb x mark) xs k d (omega arith))
 
   Clean : List (List ℕ) → Type 0
   Clean ps = AllByRecursion (λ p. AllByRecursion (λ x. x ≡ mark → ⊥) p) ps
 
-  clean_onto : (x : ℕ) (ps : List (List ℕ)) → (x ≡ mark → ⊥) → Clean ps → Clean (onto x ps)
+  clean_onto : (x : ℕ) (ps : List (List ℕ)) → (x ≡ mark → ⊥) → Clean ps → Clean (onto_first x ps)
   unfolding Clean
   clean_onto x [] n h = ((n, tt), tt)
   clean_onto x (p ∷ ps) n h = ((n, h.0), h.1)
@@ -69,9 +46,9 @@ module _ (mark : ℕ) where
   unfolding Clean
   clean [] = (tt, tt)
   clean (x ∷ xs) = elim (eqb x mark)
-      as (λ b. eqb x mark ≡ b → Clean (cond b ([] ∷ pieces_of mark xs) (onto x (pieces_of mark xs))))
+      as (λ b. eqb x mark ≡ b → Clean (cond b ([] ∷ pieces_of mark xs) (onto_first x (pieces_of mark xs))))
       [ true ↦ (λ _. (tt, clean xs)) | false ↦ (λ e. clean_onto x (pieces_of mark xs) (eqb-false x mark e) (clean xs)) ] refl
 
   pub cuts : (xs : List ℕ) → Cuts mark (pieces_of mark xs) xs
   unfolding Clean
-  cuts xs = record { whole = whole xs; clean = clean xs }
+  cuts xs = record { whole = join_with_byte-slice_split mark xs; clean = clean xs }

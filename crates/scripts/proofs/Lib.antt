@@ -1,9 +1,4 @@
 pub mod Cutting
 pub mod Numerals
-pub mod Gathering
-pub mod Pairing
-mod Texts
-mod RowWords
+pub mod Unspaced
 mod Shown
-mod Adding
-mod Scenery

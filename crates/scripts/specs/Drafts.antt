@@ -1,12 +1,12 @@
 -- The book that a script chooses and its levels. Assumes nothing.
-use Rattle.std.specs.Prelude.{◌≡◌, ℕ, cond, ◌⊎◌, List, [], ◌∷◌, ◌++◌, Some, None, Ok, Err, codes, Option, Result, MatchResult}
-use Rattle.std.specs.Option.{option_map}
+use Rattle.std.specs.Prelude.{◌≡◌, ℕ, if◌then◌else◌, ◌⊎◌, List, [], ◌∷◌, ◌++◌, Some, None, Ok, Err, codes, Option, Result, MatchResult}
+use Rattle.std.specs.Option.{option_map, ok_or}
 use Rattle.std.specs.Str.{bytes_eq}
 use Rattle.scripts.specs.Numbers.{each, number_of}
 use Rattle.levels.specs.declared.either.Either.{Either}
 use Rattle.levels.specs.declared.table.Rank.{Rank}
 use Rattle.levels.specs.declared.tags.TagSet.{TagSet}
-use Rattle.scripts.specs.Shapes.{Leaf, Side, Shape}
+use Rattle.scripts.specs.Shapes.{Word, Leaf, Side, Shape}
 use Rattle.scripts.specs.Spelled.{level_of, spelled_tags, spelled_rank, spelled_pair, spelled_either}
 use Rattle.scripts.specs.declared.draft.BookKind.{BookKind}
 use Rattle.scripts.specs.declared.draft.BookKind.TheVariants.{Row, Fixed}
@@ -14,22 +14,26 @@ use Rattle.scripts.specs.declared.draft.BookPlan.{BookPlan}
 use Rattle.scripts.specs.declared.fault.ScriptFault.{ScriptFault}
 use Rattle.scripts.specs.declared.fault.ScriptFault.TheVariants.{MissingWord, ExtraWord, NoNumber, NoLevel, NoBook, Memory}
 
-abbrev pub Word : Type 0
-Word = List ℕ
-
 -- what follows from an answer that is no fault
-abbrev pub and_then : {X Y : Type 0} → Result X ScriptFault → (X → Result Y ScriptFault) → Result Y ScriptFault
-and_then (Err e) f = Err e
-and_then (Ok x) f = f x
+infixl 10 ◌>>=◌
+abbrev pub ◌>>=◌ : {X Y : Type 0} → Result X ScriptFault → (X → Result Y ScriptFault) → Result Y ScriptFault
+Err e >>= f = Err e
+Ok x >>= f = f x
 
--- the number that the first word writes, and the words that are left
+-- what the first word says, and the words that are left
+abbrev pub first : {X : Type 0} → (Word → Result X ScriptFault) → List Word → Result (X × List Word) ScriptFault
+first read [] = Err MissingWord
+first read (word ∷ words) = do
+  x ← read word
+  Ok (x, words)
+
+-- what was read of words is what they say first, with the words that are left
+abbrev pub ReadsFirst : {T X : Type 0} → (T → X) → Result T ScriptFault → Result (X × List Word) ScriptFault → List Word → Type 0
+ReadsFirst value r said left = MatchResult r (λ x. said ≡ Ok (value x, left)) (λ e. said ≡ Err e)
+
+-- the number that the first word writes
 abbrev pub number_first : List Word → Result (ℕ × List Word) ScriptFault
-number_first [] = Err MissingWord
-number_first (word ∷ words) = there (number_of word)
-  where
-    there : Option ℕ → Result (ℕ × List Word) ScriptFault
-    there None = Err NoNumber
-    there (Some n) = Ok (n, words)
+number_first words = first (λ word. ok_or (number_of word) NoNumber) words
 
 -- no word is left
 abbrev pub last : {X : Type 0} → X → List Word → Result X ScriptFault
@@ -38,20 +42,19 @@ last x (word ∷ words) = Err ExtraWord
 
 -- which of the two books
 abbrev pub kind_of : Word → Result BookKind ScriptFault
-kind_of word = cond (bytes_eq word (codes "row")) (Ok Row) (cond (bytes_eq word (codes "fixed")) (Ok Fixed) (Err NoBook))
+kind_of word = if bytes_eq word (codes "row") then Ok Row else (if bytes_eq word (codes "fixed") then Ok Fixed else Err NoBook)
 
 abbrev pub kind_first : List Word → Result (BookKind × List Word) ScriptFault
-kind_first [] = Err MissingWord
-kind_first (word ∷ words) = and_then (kind_of word) (λ kind. Ok (kind, words))
+kind_first words = first kind_of words
 
 -- the book and its three numbers
 abbrev pub plan_of : List Word → Result BookPlan ScriptFault
-plan_of words =
-    and_then (kind_first words) (λ kind.
-    and_then (number_first kind.1) (λ permissions.
-    and_then (number_first permissions.1) (λ types.
-    and_then (number_first types.1) (λ figures.
-    last (record { kind = kind.0; permissions = permissions.0; types = types.0; figures = figures.0 }) figures.1))))
+plan_of words = do
+  kind ← kind_first words
+  permissions ← number_first kind.1
+  types ← number_first permissions.1
+  figures ← number_first types.1
+  last (record { kind = kind.0; numbers = record { permissions = permissions.0; types = types.0; figures = figures.0 } }) figures.1
 
 -- the levels that words write
 abbrev pub levels_of : {L : Type 0} → (List ℕ → Option (L × List ℕ)) → List Word → Option (List L)

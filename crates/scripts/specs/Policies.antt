@@ -1,6 +1,7 @@
 -- How a policy is shown: the levels of each type at each set, and of each figure. Assumes nothing.
-use Rattle.std.specs.Prelude.{ℕ, zero, suc, ◌^◌, List, [], ◌++◌, Some, None, Ok, Err, codes, decimal, Option, Result}
-use Rattle.levels.specs.Refusals.{refusal_text}
+use Rattle.std.specs.Prelude.{◌≡◌, ℕ, zero, suc, ◌^◌, Bool, List, [], ◌++◌, is_ok, Some, None, Ok, Err, codes, decimal, Option, Result}
+use Rattle.levels.specs.Refusals.{refusal_text, within_memory}
+use Rattle.levels.specs.declared.refusal.Layer.TheVariants.{Books}
 use Rattle.levels.specs.declared.refusal.Refusal.{Refusal}
 use Rattle.books.specs.Book.{Book}
 use Rattle.books.specs.Made.{row_verdict, fixed_verdict}
@@ -13,29 +14,31 @@ abbrev pub spaced : {L : Type 0} → (L → List ℕ) → Option L → List ℕ
 spaced text None = []
 spaced text (Some level) = codes " " ++ text level
 
+-- the texts of the numbers below k, one after the other
+unfoldable pub texts : (ℕ → List ℕ) → ℕ → List ℕ
+texts text zero = []
+texts text (suc k) = texts text k ++ text k
+
 module _ {L : Type 0} (text : L → List ℕ) (b : Book L) where
   -- the levels of a type at the sets below k
-  unfoldable pub sets_text : ℕ → ℕ → List ℕ
-  sets_text t zero = []
-  sets_text t (suc k) = sets_text t k ++ spaced text (b.level t k)
+  abbrev pub sets_text : ℕ → ℕ → List ℕ
+  sets_text t k = texts (λ set. spaced text (b.level t set)) k
 
   -- the line of a type
   abbrev pub type_line : ℕ → List ℕ
   type_line t = (codes "type " ++ (decimal t ++ codes ":")) ++ (sets_text t (2 ^ b.permissions) ++ codes "\n")
 
   -- the lines of the types below k
-  unfoldable pub type_lines : ℕ → List ℕ
-  type_lines zero = []
-  type_lines (suc k) = type_lines k ++ type_line k
+  abbrev pub type_lines : ℕ → List ℕ
+  type_lines k = texts type_line k
 
   -- the line of a figure
   abbrev pub figure_line : ℕ → List ℕ
   figure_line i = (codes "figure " ++ (decimal i ++ codes ":")) ++ (spaced text (b.figure i) ++ codes "\n")
 
   -- the lines of the figures below k
-  unfoldable pub figure_lines : ℕ → List ℕ
-  figure_lines zero = []
-  figure_lines (suc k) = figure_lines k ++ figure_line k
+  abbrev pub figure_lines : ℕ → List ℕ
+  figure_lines k = texts figure_line k
 
   -- the whole book
   abbrev pub book_text : List ℕ
@@ -46,6 +49,10 @@ abbrev pub policy_text : {L : Type 0} → (L → List ℕ) → Result (Book L) R
 policy_text text (Ok b) = codes "policy: made\n" ++ book_text text b
 policy_text text (Err refusal) = codes "policy: " ++ (refusal_text refusal ++ codes "\n")
 
+-- a verdict was told, where memory may be lacking, and whether a book was made
+abbrev pub TellsOf : {L : Type 0} → Result (Book L) Refusal → (L → List ℕ) → Bool → List ℕ → List ℕ → Type 0
+TellsOf verdict text made old new = (lacking : Bool) × (made ≡ is_ok (within_memory lacking Books verdict)) × (new ≡ old ++ policy_text text (within_memory lacking Books verdict))
+
 abbrev pub by_kind : {X : Type 0} → BookKind → X → X → X
 by_kind Row x y = x
 by_kind Fixed x y = y
@@ -53,5 +60,5 @@ by_kind Fixed x y = y
 -- the verdict on the book that was chosen, with its levels
 abbrev pub plan_verdict : {L : Type 0} → BookPlan → List L → List L → Result (Book L) Refusal
 plan_verdict plan levels figures = by_kind plan.kind
-    (row_verdict plan.permissions plan.types plan.figures levels figures)
-    (fixed_verdict plan.permissions plan.types plan.figures levels figures)
+    (row_verdict plan.numbers levels figures)
+    (fixed_verdict plan.numbers levels figures)

@@ -1,6 +1,6 @@
 -- What a script has made so far, and what each command makes of it. Assumes nothing.
-use Rattle.std.specs.Prelude.{◌≡◌, ℕ, ◌+◌, min, Bool, true, false, ◌⊎◌, List, [], ◌∷◌, ◌++◌, is_ok, IfErr, Some, None, Ok, Err, vec_items, codes, decimal, Option, Result, MatchResult}
-use Rattle.std.specs.Option.{option_map}
+use Rattle.std.specs.Prelude.{◌≡◌, ℕ, ◌+◌, min, Bool, true, false, ◌⊎◌, List, [], ◌∷◌, ◌++◌, is_ok, IfErr, Some, None, Ok, Err, nat_lt, vec_items, codes, decimal, Option, Result, MatchResult}
+use Rattle.std.specs.Option.{option_map, ok_or}
 use Rattle.std.specs.List.{flat_map}
 use Rattle.levels.specs.Refusals.{answer, within_memory, refusal_text}
 use Rattle.levels.specs.declared.refusal.Refusal.{Refusal}
@@ -9,6 +9,7 @@ use Rattle.levels.specs.declared.table.Rank.{Rank}
 use Rattle.levels.specs.declared.tags.TagSet.{TagSet}
 use Rattle.levels.specs.declared.refusal.Layer.TheVariants.{Books}
 use Rattle.books.specs.Book.{Book}
+use Rattle.layout.specs.Encoding.{Lists, written_lists, no_lists}
 use Rattle.scripts.specs.Faults.{of_hex}
 use Rattle.scripts.specs.Hex.{bytes_of}
 use Rattle.scripts.specs.Numbers.{digits_of}
@@ -16,15 +17,17 @@ use Rattle.scripts.specs.Policies.{policy_text, plan_verdict}
 use Rattle.scripts.specs.Spelled.{by_choice, pair_text}
 use Rattle.scripts.specs.declared.hex.HexFault.{HexFault}
 use Rattle.scripts.specs.declared.number.Base.TheVariants.{Sixteen}
-use Rattle.scripts.specs.Drafts.{Word, and_then, last, plan_of, levels_of, spelled_shape}
-use Rattle.scripts.specs.Shapes.{Shape, shape_text, lattice_of, Fails}
-use Rattle.scripts.specs.Transcripts.{said}
+use Rattle.scripts.specs.Drafts.{◌>>=◌, last, plan_of, levels_of, spelled_shape}
+use Rattle.scripts.specs.Shapes.{Word, Shape, shape_text, lattice_of, Fails}
 use Rattle.scripts.specs.declared.draft.BookPlan.{BookPlan}
 use Rattle.scripts.specs.declared.draft.Draft.{Draft}
 use Rattle.scripts.specs.declared.fault.ScriptFault.{ScriptFault}
 use Rattle.scripts.specs.declared.fault.ScriptFault.TheVariants.{MissingWord, WantsLattice, WantsBook, NoLevel, Memory}
+use Rattle.scripts.specs.declared.draft.Owner.{Owner}
+use Rattle.scripts.specs.declared.draft.Owner.TheVariants.{Types, Figures}
+use Rattle.scripts.specs.declared.session.Section.{Section}
+use Rattle.scripts.specs.declared.session.Section.TheVariants.{Nodes, Functions, Apps}
 use Rattle.scripts.specs.declared.session.Session.{Session}
-use Rattle.scripts.specs.declared.session.Source.{Source}
 use Rattle.scripts.specs.declared.session.Tally.{Tally}
 
 abbrev pub LeafLevel : Type 0
@@ -54,48 +57,36 @@ Answered r wanted made = MatchResult r (λ _. wanted ≡ Ok made) (λ e. (e ≡ 
 abbrev pub Silent : {U : Type 0} → Result U ScriptFault → List ℕ → List ℕ → Type 0
 Silent r old new = IfErr r (λ e. (e ≡ Memory) ⊎ (new ≡ old))
 
--- levels, where each word is one
-abbrev pub given : {X : Type 0} → Option (List ShapeLevel) → (List ShapeLevel → X) → Result X ScriptFault
-given None f = Err NoLevel
-given (Some more) f = Ok (f more)
+-- levels after those of the types, or of the figures
+abbrev pub with_levels : Owner → Sketch → List ShapeLevel → Sketch
+with_levels Types d more = record d { levels = d.levels ++ more }
+with_levels Figures d more = record d { figures = d.figures ++ more }
 
--- levels come only for a book that was chosen
-abbrev pub if_chosen : {X : Type 0} → Option BookPlan → Result X ScriptFault → Result X ScriptFault
-if_chosen None wanted = Err WantsBook
-if_chosen (Some plan) wanted = wanted
+-- levels come only for a book that was chosen, and each word is one
+abbrev pub given_levels : Owner → Sketch → List Word → Result Sketch ScriptFault
+given_levels owner d words = do
+  plan ← ok_or d.plan WantsBook
+  more ← ok_or (levels_of (spelled_shape d.shape) words) NoLevel
+  Ok (with_levels owner d more)
 
-abbrev pub given_levels : Sketch → List Word → Result Sketch ScriptFault
-given_levels s words =
-    if_chosen s.plan (given (levels_of (spelled_shape s.shape) words) (λ more.
-    record { shape = s.shape; plan = s.plan; levels = s.levels ++ more; figures = s.figures }))
-
-abbrev pub given_figures : Sketch → List Word → Result Sketch ScriptFault
-given_figures s words =
-    if_chosen s.plan (given (levels_of (spelled_shape s.shape) words) (λ more.
-    record { shape = s.shape; plan = s.plan; levels = s.levels; figures = s.figures ++ more }))
-
--- the three byte lists of a program
-pub record Bytes : Type 0 where
-  pub nodes : List ℕ
-  pub functions : List ℕ
-  pub apps : List ℕ
-
-abbrev pub no_bytes : Bytes
-no_bytes = record { nodes = []; functions = []; apps = [] }
-
-abbrev pub bytes_in : Source → Bytes
-bytes_in b = record { nodes = vec_items b.nodes; functions = vec_items b.functions; apps = vec_items b.apps }
-
--- all that a script has made so far: whether a scenario has begun, its lattice and book, its program in bytes, what was done, and the transcript
+-- all that a script has made so far: its lattice and book, its program in bytes, what was done, and the transcript
 pub record Scene : Type 0 where
-  pub begun : Bool
   pub draft : Option Sketch
-  pub bytes : Bytes
+  -- the three byte lists of a program
+  pub bytes : Lists
   pub tally : Tally
   pub text : List ℕ
 
 abbrev pub scene : Session → Scene
-scene s = record { begun = s.begun; draft = option_map sketch s.draft; bytes = bytes_in s.source; tally = s.tally; text = said s.transcript }
+scene s = record { draft = option_map sketch s.draft; bytes = written_lists s.source; tally = s.tally; text = s.transcript }
+
+-- whether a scenario has begun
+abbrev pub begun : Scene → Bool
+begun s = nat_lt 0 s.tally.scenarios
+
+-- what a command by its words is to make of a scene, it made of a session's; a line at fault added nothing to the transcript
+abbrev pub Does : {U : Type 0} → (Scene → List Word → Result U ScriptFault → Scene → Type 0) → Session → List Word → Result U ScriptFault → Session → Type 0
+Does Act old words r new = Act (scene old) words r (scene new) × Silent r old.transcript new.transcript
 
 -- one more, up to the largest number of 64 bits
 abbrev pub one_more : ℕ → ℕ
@@ -108,25 +99,29 @@ only_word (word ∷ words) = last word words
 
 -- `scenario`: everything made so far is forgotten
 abbrev pub scenario_begun : Scene → List Word → Result Scene ScriptFault
-scenario_begun s words = and_then (only_word words) (λ name. Ok (record {
-  begun = true;
-  draft = None;
-  bytes = no_bytes;
-  tally = record { scenarios = one_more s.tally.scenarios; made = s.tally.made; refused = s.tally.refused };
-  text = s.text ++ (codes "scenario " ++ (name ++ codes "\n"));
-}))
+scenario_begun s words = do
+  name ← only_word words
+  Ok (record {
+    draft = None;
+    bytes = no_lists;
+    tally = record s.tally { scenarios = one_more s.tally.scenarios };
+    text = s.text ++ (codes "scenario " ++ (name ++ codes "\n"));
+  })
 
 -- a scene with another draft and more text
 abbrev pub with_draft : Scene → Option Sketch → List ℕ → Scene
-with_draft s draft more = record { begun = s.begun; draft = draft; bytes = s.bytes; tally = s.tally; text = s.text ++ more }
+with_draft s draft more = record s { draft = draft; text = s.text ++ more }
 
 abbrev pub lattice_text : {X : Type 0} → Result X Refusal → List ℕ
 lattice_text (Ok shape) = codes "lattice: made\n"
 lattice_text (Err refusal) = codes "lattice: " ++ (refusal_text refusal ++ codes "\n")
 
 -- a lattice without a book
+abbrev pub bare : Shape → Sketch
+bare shape = record { shape = shape; plan = None; levels = []; figures = [] }
+
 abbrev pub new_sketch : Result Shape Refusal → Option Sketch
-new_sketch (Ok shape) = Some (record { shape = shape; plan = None; levels = []; figures = [] })
+new_sketch (Ok shape) = Some (bare shape)
 new_sketch (Err refusal) = None
 
 -- `lattice`: the lattice that the words say takes the place of all that was made over another
@@ -136,33 +131,20 @@ Latticed s words r t = MatchResult r
     (λ e. Fails e (lattice_of words))
 
 abbrev pub emptied : Sketch → BookPlan → Sketch
-emptied d plan = record { shape = d.shape; plan = Some plan; levels = []; figures = [] }
+emptied d plan = record d { plan = Some plan; levels = []; figures = [] }
 
 -- `book`: the book is chosen over the lattice, if there is one
 abbrev pub book_chosen : Scene → List Word → Result Scene ScriptFault
-book_chosen s words = and_then (plan_of words) (λ plan. Ok (record {
-  begun = s.begun;
-  draft = option_map (λ d. emptied d plan) s.draft;
-  bytes = s.bytes;
-  tally = s.tally;
-  text = s.text;
-}))
-
--- what needs a lattice
-abbrev pub over_lattice : {X : Type 0} → Option Sketch → (Sketch → Result X ScriptFault) → Result X ScriptFault
-over_lattice None f = Err WantsLattice
-over_lattice (Some d) f = f d
-
--- a scene whose draft is changed
-abbrev pub redrafted : Scene → Sketch → Scene
-redrafted s d = record { begun = s.begun; draft = Some d; bytes = s.bytes; tally = s.tally; text = s.text }
+book_chosen s words = do
+  plan ← plan_of words
+  Ok (record s { draft = option_map (λ d. emptied d plan) s.draft })
 
 -- `levels` and `figures`
-abbrev pub levels_given : Scene → List Word → Result Scene ScriptFault
-levels_given s words = over_lattice s.draft (λ d. and_then (given_levels d words) (λ e. Ok (redrafted s e)))
-
-abbrev pub figures_given : Scene → List Word → Result Scene ScriptFault
-figures_given s words = over_lattice s.draft (λ d. and_then (given_figures d words) (λ e. Ok (redrafted s e)))
+abbrev pub levels_given : Owner → Scene → List Word → Result Scene ScriptFault
+levels_given owner s words = do
+  d ← ok_or s.draft WantsLattice
+  e ← given_levels owner d words
+  Ok (record s { draft = Some e })
 
 -- the texts of levels
 abbrev pub leaf_level_text : LeafLevel → List ℕ
@@ -174,63 +156,59 @@ side_level_text level = by_choice leaf_level_text (pair_text leaf_level_text lea
 abbrev pub shape_level_text : ShapeLevel → List ℕ
 shape_level_text level = by_choice leaf_level_text (pair_text side_level_text side_level_text) level
 
-abbrev pub over_book : {X : Type 0} → Option BookPlan → (BookPlan → Result X ScriptFault) → Result X ScriptFault
-over_book None f = Err WantsBook
-over_book (Some plan) f = f plan
-
 -- the verdict on the book of a draft, where memory may be lacking
 abbrev pub sketch_verdict : Bool → Sketch → Result (Result (Book ShapeLevel) Refusal) ScriptFault
-sketch_verdict lacking d = over_book d.plan (λ plan. Ok (within_memory lacking Books (plan_verdict plan d.levels d.figures)))
+sketch_verdict lacking d = do
+  plan ← ok_or d.plan WantsBook
+  Ok (within_memory lacking Books (plan_verdict plan d.levels d.figures))
 
--- the verdict was told, and whether the book was made was answered
+-- the verdict was told, and whether the book was made was answered; a fault adds nothing
 abbrev pub Tells : Result Bool ScriptFault → (Bool → Result (Result (Book ShapeLevel) Refusal) ScriptFault) → List ℕ → List ℕ → Type 0
 Tells r wanted old new = MatchResult r
     (λ good. (lacking : Bool) × (verdict : Result (Book ShapeLevel) Refusal) × (wanted lacking ≡ Ok verdict) × (good ≡ is_ok verdict) × (new ≡ old ++ policy_text shape_level_text verdict))
-    (λ e. (e ≡ Memory) ⊎ (wanted false ≡ Err e))
+    (λ e. (e ≡ Memory) ⊎ ((wanted false ≡ Err e) × (new ≡ old)))
 
 -- one more policy that was made, or refused
 abbrev pub counted : Tally → Bool → Tally
-counted t true = record { scenarios = t.scenarios; made = one_more t.made; refused = t.refused }
-counted t false = record { scenarios = t.scenarios; made = t.made; refused = one_more t.refused }
+counted t true = record t { made = one_more t.made }
+counted t false = record t { refused = one_more t.refused }
 
 abbrev pub with_verdict : Scene → Result (Book ShapeLevel) Refusal → Scene
-with_verdict s verdict = record {
-  begun = s.begun;
-  draft = s.draft;
-  bytes = s.bytes;
-  tally = counted s.tally (is_ok verdict);
-  text = s.text ++ policy_text shape_level_text verdict;
-}
+with_verdict s verdict = record s { tally = counted s.tally (is_ok verdict); text = s.text ++ policy_text shape_level_text verdict }
 
 -- `policy`
 abbrev pub policy_told : Bool → Scene → List Word → Result Scene ScriptFault
-policy_told lacking s words =
-    and_then (last (tt {0}) words) (λ _. over_lattice s.draft (λ d. and_then (sketch_verdict lacking d) (λ verdict. Ok (with_verdict s verdict))))
+policy_told lacking s words = do
+  none ← last (tt {0}) words
+  d ← ok_or s.draft WantsLattice
+  verdict ← sketch_verdict lacking d
+  Ok (with_verdict s verdict)
 
 -- what was answered is what is to be, in memory that sufficed or that did not
 abbrev pub AnsweredWithin : {S U : Type 0} → Result U ScriptFault → (Bool → Result S ScriptFault) → S → Type 0
 AnsweredWithin r wanted made = MatchResult r (λ _. (lacking : Bool) × (wanted lacking ≡ Ok made)) (λ e. (e ≡ Memory) ⊎ (wanted false ≡ Err e))
 
-abbrev pub from_hex : Result (List ℕ) HexFault → (List ℕ → Scene) → Result Scene ScriptFault
-from_hex (Err e) f = Err (of_hex e)
-from_hex (Ok more) f = Ok (f more)
+abbrev pub from_hex : Result (List ℕ) HexFault → Result (List ℕ) ScriptFault
+from_hex (Err e) = Err (of_hex e)
+from_hex (Ok bytes) = Ok bytes
 
 -- the bytes that words of hexadecimal digits write
-abbrev pub hex_in : List Word → (List ℕ → Scene) → Result Scene ScriptFault
-hex_in words f = from_hex (bytes_of (digits_of Sixteen (flat_map (λ word. word) words))) f
+abbrev pub hex_in : List Word → Result (List ℕ) ScriptFault
+hex_in words = from_hex (bytes_of (digits_of Sixteen (flat_map (λ word. word) words)))
 
-abbrev pub with_bytes : Scene → Bytes → Scene
-with_bytes s b = record { begun = s.begun; draft = s.draft; bytes = b; tally = s.tally; text = s.text }
+-- bytes after those of one of the three lists
+abbrev pub with_bytes : Section → Lists → List ℕ → Lists
+with_bytes Nodes b more = record b { nodes = b.nodes ++ more }
+with_bytes Functions b more = record b { functions = b.functions ++ more }
+with_bytes Apps b more = record b { apps = b.apps ++ more }
 
 -- `nodes`, `functions` and `apps` add to the end of their list; `clear` empties the three
-abbrev pub nodes_added : Scene → List Word → Result Scene ScriptFault
-nodes_added s words = hex_in words (λ more. with_bytes s (record { nodes = s.bytes.nodes ++ more; functions = s.bytes.functions; apps = s.bytes.apps }))
-
-abbrev pub functions_added : Scene → List Word → Result Scene ScriptFault
-functions_added s words = hex_in words (λ more. with_bytes s (record { nodes = s.bytes.nodes; functions = s.bytes.functions ++ more; apps = s.bytes.apps }))
-
-abbrev pub apps_added : Scene → List Word → Result Scene ScriptFault
-apps_added s words = hex_in words (λ more. with_bytes s (record { nodes = s.bytes.nodes; functions = s.bytes.functions; apps = s.bytes.apps ++ more }))
+abbrev pub bytes_added : Section → Scene → List Word → Result Scene ScriptFault
+bytes_added section s words = do
+  more ← hex_in words
+  Ok (record s { bytes = with_bytes section s.bytes more })
 
 abbrev pub cleared : Scene → List Word → Result Scene ScriptFault
-cleared s words = and_then (last (tt {0}) words) (λ _. Ok (with_bytes s no_bytes))
+cleared s words = do
+  none ← last (tt {0}) words
+  Ok (record s { bytes = no_lists })

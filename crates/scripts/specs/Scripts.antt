@@ -1,64 +1,61 @@
 -- What a line makes of a scene, and what a whole script leaves. Assumes nothing.
-use Rattle.std.specs.Prelude.{◌≡◌, ℕ, Bool, true, false, cond, ◌⊎◌, List, [], ◌∷◌, ◌++◌, Some, None, Ok, Err, codes, decimal, Option, Result}
+use Rattle.std.specs.Prelude.{◌≡◌, ℕ, Bool, true, false, if◌then◌else◌, ◌⊎◌, List, [], ◌∷◌, ◌++◌, None, Ok, Err, codes, decimal, Result}
 use Rattle.std.specs.Option.{unwrap_or}
 use Rattle.std.specs.List.{slice_get}
 use Rattle.std.specs.Str.{bytes_eq}
-use Rattle.levels.specs.Scan.{or_else}
-use Rattle.scripts.specs.Drafts.{Word}
+use Rattle.scripts.specs.Shapes.{Word}
 use Rattle.scripts.specs.Pieces.{pieces_of}
-use Rattle.scripts.specs.Scenes.{Scene, no_bytes, one_more, Answered, AnsweredWithin, Latticed, scenario_begun, book_chosen, levels_given, figures_given, policy_told, nodes_added, functions_added, apps_added, cleared}
+use Rattle.layout.specs.Encoding.{no_lists}
+use Rattle.scripts.specs.Scenes.{Scene, begun, one_more, Answered, AnsweredWithin, Latticed, scenario_begun, book_chosen, levels_given, policy_told, bytes_added, cleared}
 use Rattle.scripts.specs.Words.{words_of}
 use Rattle.scripts.specs.declared.fault.LineFault.{LineFault}
 use Rattle.scripts.specs.declared.fault.ScriptFault.{ScriptFault}
 use Rattle.scripts.specs.declared.fault.ScriptFault.TheVariants.{NoScenario, UnknownCommand, Memory}
 use Rattle.scripts.specs.declared.session.Command.{Command}
-use Rattle.scripts.specs.declared.session.Command.TheVariants.{Lattice, Book, Levels, Figures, Policy, Nodes, Functions, Apps, Clear}
-
--- the commands about lattices and books, and those about the bytes of a program
-abbrev pub policy_command_of : Word → Option Command
-policy_command_of word =
-    cond (bytes_eq word (codes "lattice")) (Some Lattice)
-    (cond (bytes_eq word (codes "book")) (Some Book)
-    (cond (bytes_eq word (codes "levels")) (Some Levels)
-    (cond (bytes_eq word (codes "figures")) (Some Figures)
-    (cond (bytes_eq word (codes "policy")) (Some Policy) None))))
-
-abbrev pub source_command_of : Word → Option Command
-source_command_of word =
-    cond (bytes_eq word (codes "nodes")) (Some Nodes)
-    (cond (bytes_eq word (codes "functions")) (Some Functions)
-    (cond (bytes_eq word (codes "apps")) (Some Apps)
-    (cond (bytes_eq word (codes "clear")) (Some Clear) None)))
+use Rattle.scripts.specs.declared.session.Command.TheVariants.{Lattice, Book, Levels, Policy, Add, Clear}
+use Rattle.scripts.specs.declared.draft.Owner.TheVariants.{Types, Figures}
+use Rattle.scripts.specs.declared.session.Section.TheVariants.{Nodes, Functions, Apps}
 
 -- the command that a word names, `scenario` aside
-abbrev pub command_of : Word → Option Command
-command_of word = or_else (policy_command_of word) (source_command_of word)
+abbrev pub command_of : Word → Result Command ScriptFault
+command_of word =
+    if bytes_eq word (codes "lattice") then Ok Lattice
+    else (if bytes_eq word (codes "book") then Ok Book
+    else (if bytes_eq word (codes "levels") then Ok (Levels Types)
+    else (if bytes_eq word (codes "figures") then Ok (Levels Figures)
+    else (if bytes_eq word (codes "policy") then Ok Policy
+    else (if bytes_eq word (codes "nodes") then Ok (Add Nodes)
+    else (if bytes_eq word (codes "functions") then Ok (Add Functions)
+    else (if bytes_eq word (codes "apps") then Ok (Add Apps)
+    else (if bytes_eq word (codes "clear") then Ok Clear
+    else Err UnknownCommand))))))))
+
+-- what a command makes of a scene
+abbrev pub Acts : Command → Scene → List Word → Result (Unit {0}) ScriptFault → Scene → Type 0
+Acts Lattice s words r t = Latticed s words r t
+Acts Book s words r t = Answered r (book_chosen s words) t
+Acts (Levels owner) s words r t = Answered r (levels_given owner s words) t
+Acts Policy s words r t = AnsweredWithin r (λ lacking. policy_told lacking s words) t
+Acts (Add section) s words r t = Answered r (bytes_added section s words) t
+Acts Clear s words r t = Answered r (cleared s words) t
+
+-- what `scenario` makes of it
+abbrev pub Begins : Scene → List Word → Result (Unit {0}) ScriptFault → Scene → Type 0
+Begins s words r t = Answered r (scenario_begun s words) t
 
 module _ (s : Scene) (words : List Word) (r : Result (Unit {0}) ScriptFault) (t : Scene) where
-  -- what a command makes of a scene
-  abbrev pub Acts : Command → Type 0
-  Acts Lattice = Latticed s words r t
-  Acts Book = Answered r (book_chosen s words) t
-  Acts Levels = Answered r (levels_given s words) t
-  Acts Figures = Answered r (figures_given s words) t
-  Acts Policy = AnsweredWithin r (λ lacking. policy_told lacking s words) t
-  Acts Nodes = Answered r (nodes_added s words) t
-  Acts Functions = Answered r (functions_added s words) t
-  Acts Apps = Answered r (apps_added s words) t
-  Acts Clear = Answered r (cleared s words) t
-
-  abbrev pub ActsIfKnown : Option Command → Type 0
-  ActsIfKnown None = r ≡ Err UnknownCommand
-  ActsIfKnown (Some command) = Acts command
+  abbrev pub ActsIfKnown : Result Command ScriptFault → Type 0
+  ActsIfKnown (Err e) = r ≡ Err e
+  ActsIfKnown (Ok command) = Acts command s words r t
 
   -- a command comes after the first `scenario`
-  abbrev pub InScenario : Bool → Option Command → Type 0
+  abbrev pub InScenario : Bool → Result Command ScriptFault → Type 0
   InScenario false command = r ≡ Err NoScenario
   InScenario true command = ActsIfKnown command
 
-  abbrev pub Takes : Bool → Option Command → Type 0
-  Takes true command = Answered r (scenario_begun s words) t
-  Takes false command = InScenario s.begun command
+  abbrev pub Takes : Bool → Result Command ScriptFault → Type 0
+  Takes true command = Begins s words r t
+  Takes false command = InScenario (begun s) command
 
 -- what a line makes of a scene, by its words: a line without words changes nothing
 abbrev pub Obeys : Scene → List Word → Result (Unit {0}) ScriptFault → Scene → Type 0
@@ -77,7 +74,7 @@ closing s =
 
 -- before the first line
 abbrev pub opening : Scene
-opening = record { begun = false; draft = None; bytes = no_bytes; tally = record { scenarios = 0; made = 0; refused = 0 }; text = [] }
+opening = record { draft = None; bytes = no_lists; tally = record { scenarios = 0; made = 0; refused = 0 }; text = [] }
 
 abbrev pub at_line : ℕ → ScriptFault → LineFault
 at_line n fault = record { line = n; fault = fault }

@@ -1,5 +1,5 @@
 -- LATTICE: the words of a lattice, and what the making of it answers. Assumes nothing.
-use Rattle.std.specs.Prelude.{◌≡◌, ℕ, cond, ◌⊎◌, List, [], ◌∷◌, Some, None, Ok, Err, codes, Option, Result, MatchResult, nat_le}
+use Rattle.std.specs.Prelude.{◌≡◌, ℕ, if◌then◌else◌, ◌⊎◌, List, [], ◌∷◌, Some, None, Ok, Err, codes, Option, Result, MatchResult, nat_le}
 use Rattle.std.specs.Option.{option_map}
 use Rattle.std.specs.Str.{bytes_eq}
 use Rattle.levels.specs.Refusals.{answer}
@@ -60,7 +60,7 @@ Said X = Option (Result X Refusal × List Word)
 
 -- a row before more rows; a number over 65535 is at fault
 abbrev pub row_before : ℕ → Option (List ℕ × List Word) → Option (List ℕ × List Word)
-row_before n more = cond (nat_le n 65535) (option_map (λ found. (n ∷ found.0, found.1)) more) None
+row_before n more = if nat_le n 65535 then option_map (λ found. (n ∷ found.0, found.1)) more else None
 
 -- the rows end at a word that is no number
 abbrev pub row_or_end : Option ℕ → List Word → Option (List ℕ × List Word) → Option (List ℕ × List Word)
@@ -85,8 +85,7 @@ table_in words = option_map (λ found. (answer Right (λ e. e) (table_verdict fo
 abbrev pub leaf_in : List Word → Said LeafText
 leaf_in [] = None
 leaf_in (word ∷ words) =
-    cond (bytes_eq word (codes "tags")) (tags_in words)
-    (cond (bytes_eq word (codes "rows")) (table_in words) None)
+    if bytes_eq word (codes "tags") then tags_in words else (if bytes_eq word (codes "rows") then table_in words else None)
 
 -- the pair of two lattices that were made, or the first fault; and a lattice that is no pair
 abbrev pub paired : {R S T : Type 0} → Result S TableFault → Result T TableFault → Result (Either R (Pair S T)) TableFault
@@ -112,9 +111,9 @@ two_in side words = after (side words) (λ first. option_map (λ second. (both_m
 abbrev pub pair_in : {X : Type 0} → (List Word → Said X) → List Word → Said (Either LeafText (X × X))
 pair_in side [] = None
 pair_in side (word ∷ words) =
-    cond (bytes_eq word (codes "pair"))
-    (option_map (λ made. (answer Right (λ e. e) made.0, made.1)) (two_in side words))
-    (option_map (λ made. (answer Left (λ e. e) made.0, made.1)) (leaf_in (word ∷ words)))
+    if bytes_eq word (codes "pair")
+    then option_map (λ made. (answer Right (λ e. e) made.0, made.1)) (two_in side words)
+    else option_map (λ made. (answer Left (λ e. e) made.0, made.1)) (leaf_in (word ∷ words))
 
 abbrev pub side_in : List Word → Said SideText
 side_in words = pair_in leaf_in words
@@ -131,9 +130,10 @@ lattice_of words = after (shape_in words) (λ made. alone made.0 made.1)
 abbrev pub Fails : {X : Type 0} → ScriptFault → Option X → Type 0
 Fails e said = (e ≡ Memory) ⊎ ((e ≡ NoLattice) × (said ≡ None))
 
--- what was read of words, with the words that are left, is what they say
-abbrev pub Reads : {T X : Type 0} → (T → X) → Result T ScriptFault → Option (X × List Word) → List Word → Type 0
-Reads value r said left = MatchResult r (λ x. Some (value x, left) ≡ said) (λ e. Fails e said)
-
+-- what was made of words is what they say
 abbrev pub Makes : {T X : Type 0} → (T → X) → Result T ScriptFault → Option X → Type 0
 Makes value r said = MatchResult r (λ x. Some (value x) ≡ said) (λ e. Fails e said)
+
+-- so it is with the words that are left
+abbrev pub Reads : {T X : Type 0} → (T → X) → Result T ScriptFault → Option (X × List Word) → List Word → Type 0
+Reads value r said left = Makes (λ x. (value x, left)) r said

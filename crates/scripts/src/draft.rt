@@ -1,7 +1,9 @@
 //! The book that a script chooses over a lattice.
-ghost use Rattle.std.specs.Prelude.{◌≡◌, [], Some, None};
+ghost use Rattle.std.specs.Prelude.{◌≡◌};
+ghost use Rattle.scripts.specs.Scenes.{sketch, bare, emptied};
 
 use crate::shape::{Shape, ShapeLevel};
+use books::numbers::Numbers;
 use std::alloc::Global;
 
 mod given;
@@ -14,13 +16,18 @@ pub enum BookKind {
     Fixed,
 }
 
+/// Whose levels a line gives.
+#[derive(Clone, Copy, PartialEq, Eq, Debug)]
+pub enum Owner {
+    Types,
+    Figures,
+}
+
 /// Which book is to be made, by its numbers as the script gives them.
 #[derive(Clone, Copy, PartialEq, Eq, Debug)]
 pub struct BookPlan {
     kind: BookKind,
-    permissions: u32,
-    types: u32,
-    figures: u32,
+    numbers: Numbers,
 }
 
 /// A lattice that was made, the book that was chosen over it, and the levels given so far.
@@ -35,10 +42,7 @@ pub struct Draft {
 impl Draft {
     /// A lattice without a book.
     pub fn new(heap: Global, shape: Shape) -> Draft
-        ensures shape { result.shape ≡ shape }
-        ensures plan { result.plan ≡ None }
-        ensures levels { result.levels.items ≡ [] }
-        ensures figures { result.figures.items ≡ [] }
+        ensures { sketch result ≡ bare shape }
     {
         Draft {
             shape,
@@ -50,10 +54,7 @@ impl Draft {
 
     /// Chooses a book, of which no level is given yet.
     pub fn choose(&mut self, plan: BookPlan)
-        ensures shape { self.new.shape ≡ self.old.shape }
-        ensures plan { self.new.plan ≡ Some plan }
-        ensures levels { self.new.levels.items ≡ [] }
-        ensures figures { self.new.figures.items ≡ [] }
+        ensures { sketch self.new ≡ emptied (sketch self.old) plan }
     {
         self.plan = Some(plan);
         self.levels.clear();

@@ -5,6 +5,7 @@ ghost use Rattle.scripts.specs.Faults.{of_hex};
 
 use crate::hex::HexFault;
 use std::alloc::{AllocError, AllocFailed};
+use std::error::Error;
 use std::fmt;
 
 #[derive(Clone, Copy, PartialEq, Eq, Debug)]
@@ -32,23 +33,25 @@ pub enum ScriptFault {
 
 impl fmt::Display for ScriptFault {
     fn fmt<W: fmt::Write>(&self, f: &mut fmt::Formatter<W>) -> fmt::Result {
-        match self {
-            ScriptFault::NoScenario => write!(f, "the first command of a script is 'scenario'"),
-            ScriptFault::UnknownCommand => write!(f, "there is no such command"),
-            ScriptFault::MissingWord => write!(f, "a word is missing"),
-            ScriptFault::ExtraWord => write!(f, "there is a word too many"),
-            ScriptFault::NoNumber => write!(f, "a word is no number of at most 4294967295"),
-            ScriptFault::NoHex => write!(f, "a character is no hexadecimal digit"),
-            ScriptFault::OddHex => write!(f, "the count of hexadecimal digits is odd"),
-            ScriptFault::NoLevel => write!(f, "a word is no level of the lattice's shape"),
-            ScriptFault::NoLattice => write!(f, "the words are no lattice"),
-            ScriptFault::NoBook => write!(f, "a book is 'row' or 'fixed'"),
-            ScriptFault::WantsLattice => write!(f, "no lattice is made"),
-            ScriptFault::WantsBook => write!(f, "no book is chosen"),
-            ScriptFault::Memory => write!(f, "out of memory"),
-        }
+        f.write_str(match self {
+            ScriptFault::NoScenario => "the first command of a script is 'scenario'",
+            ScriptFault::UnknownCommand => "there is no such command",
+            ScriptFault::MissingWord => "a word is missing",
+            ScriptFault::ExtraWord => "there is a word too many",
+            ScriptFault::NoNumber => "a word is no number of at most 4294967295",
+            ScriptFault::NoHex => "a character is no hexadecimal digit",
+            ScriptFault::OddHex => "the count of hexadecimal digits is odd",
+            ScriptFault::NoLevel => "a word is no level of the lattice's shape",
+            ScriptFault::NoLattice => "the words are no lattice",
+            ScriptFault::NoBook => "a book is 'row' or 'fixed'",
+            ScriptFault::WantsLattice => "no lattice is made",
+            ScriptFault::WantsBook => "no book is chosen",
+            ScriptFault::Memory => "out of memory",
+        })
     }
 }
+
+impl Error for ScriptFault {}
 
 impl From<AllocError> for ScriptFault {
     ghost from_gives = { λ _ r. r ≡ Memory };
@@ -87,8 +90,8 @@ pub struct LineFault {
 
 impl fmt::Display for LineFault {
     fn fmt<W: fmt::Write>(&self, f: &mut fmt::Formatter<W>) -> fmt::Result {
-        let line = self.line;
-        let fault = self.fault;
-        write!(f, "line {line}: {fault}")
+        write!(f, "line {}: {}", self.line, self.fault)
     }
 }
+
+impl Error for LineFault {}

@@ -1,13 +1,13 @@
 //! LATTICE: reading the words of a lattice, and making it.
-ghost use Rattle.std.specs.Prelude.{◌≡◌, vec_items};
+ghost use Rattle.std.specs.Prelude.{◌≡◌, ◌∷◌, ℕ, List, vec_items};
 ghost use Rattle.levels.specs.Refusals.{answer};
 ghost use Rattle.levels.specs.Tables.{table_refusal};
-ghost use Rattle.scripts.specs.Shapes.{leaf_text, side_text, shape_text, rows_in, tags_in, table_in, leaf_in, side_in, shape_in, lattice_of, paired, unpaired, Reads, Makes};
+ghost use Rattle.scripts.specs.Shapes.{leaf_text, pair_or_one, shape_text, rows_in, tags_in, table_in, leaf_in, pair_in, lattice_of, paired, unpaired, LeafText, Said, Reads, Makes};
 ghost use Rattle.scripts.specs.Words.{words_left};
 
 use crate::fault::ScriptFault;
 use crate::number::number;
-use crate::shape::{Leaf, Shape, Side};
+use crate::shape::{Leaf, Shape};
 use crate::words::{Words, says};
 use levels::either::Either;
 use levels::pair::Pair;
@@ -15,130 +15,118 @@ use levels::table::{OrderTable, TableFault};
 use levels::tags::Tags;
 use std::alloc::Global;
 
+// A lattice that was made, or why it was refused; or the words are at fault.
+type Making<T> = Result<Result<T, TableFault>, ScriptFault>;
+
+// A lattice that words can write.
+trait Worded: Drop {
+    // What such a lattice is made of, that of a lattice, and what words say of it.
+    ghost Text: { Type 0 };
+
+    ghost text: { Self → Text };
+
+    ghost said: { List (List ℕ) → Said Text };
+
+    fn read(heap: Global, words: &mut Words<'_>) -> Making<Self>
+        ensures { Reads (answer text table_refusal) result (said (words_left words.old)) (words_left words.new) };
+}
+
 // The rows of a table.
 fn rows(heap: Global, words: &mut Words<'_>) -> Result<Vec<u16>, ScriptFault>
     ensures { Reads vec_items result (rows_in (words_left words.old)) (words_left words.new) }
 {
     let mut rows = Vec::new(heap);
     let mut ahead = *words;
-    while let Some(word) = ahead.take() {
-        let Some(row) = number(word) else {
-            return Ok(rows);
-        };
-        if row > 65535 {
-            return Err(ScriptFault::NoLattice);
-        }
-        rows.push(row as u16)?;
+    while let Some(row) = ahead.next().and_then(number) {
+        let row = u16::try_from(row).map_err(|_| ScriptFault::NoLattice)?;
+        rows.push(row)?;
         *words = ahead;
     }
-    *words = ahead;
     Ok(rows)
 }
 
-fn tags(words: &mut Words<'_>) -> Result<Result<Leaf, TableFault>, ScriptFault>
+fn tags(words: &mut Words<'_>) -> Making<Leaf>
     ensures { Reads (answer leaf_text table_refusal) result (tags_in (words_left words.old)) (words_left words.new) }
 {
-    let Some(word) = words.take() else {
-        return Err(ScriptFault::NoLattice);
-    };
-    match number(word) {
-        Some(mask) => Ok(Ok(Either::Left(Tags::new(mask)))),
-        None => Err(ScriptFault::NoLattice),
-    }
+    let mask = words.next().and_then(number).ok_or(ScriptFault::NoLattice)?;
+    Ok(Ok(Either::Left(Tags::new(mask))))
 }
 
-fn table(heap: Global, words: &mut Words<'_>) -> Result<Result<Leaf, TableFault>, ScriptFault>
+fn table(heap: Global, words: &mut Words<'_>) -> Making<Leaf>
     ensures { Reads (answer leaf_text table_refusal) result (table_in (words_left words.old)) (words_left words.new) }
 {
     let rows = rows(heap, words)?;
-    match OrderTable::new(rows.as_slice()) {
-        Ok(table) => Ok(Ok(Either::Right(table))),
-        Err(fault) => Ok(Err(fault)),
-    }
+    Ok(OrderTable::new(rows.as_slice()).map(Either::Right))
 }
 
-// A lattice that is no pair.
-fn leaf(heap: Global, words: &mut Words<'_>) -> Result<Result<Leaf, TableFault>, ScriptFault>
-    ensures { Reads (answer leaf_text table_refusal) result (leaf_in (words_left words.old)) (words_left words.new) }
+// A lattice that is no pair, by its first word and those after it.
+fn leaf(heap: Global, word: &[u8], words: &mut Words<'_>) -> Making<Leaf>
+    ensures { Reads (answer leaf_text table_refusal) result (leaf_in (word.now ∷ words_left words.old)) (words_left words.new) }
 {
-    let Some(word) = words.take() else {
-        return Err(ScriptFault::NoLattice);
-    };
-    if says(word, b"tags") {
-        return tags(words);
+    match word {
+        b"tags" => tags(words),
+        b"rows" => table(heap, words),
+        _ => Err(ScriptFault::NoLattice),
     }
-    if says(word, b"rows") {
-        return table(heap, words);
-    }
-    Err(ScriptFault::NoLattice)
 }
 
 // The pair of two lattices that were made, or the first fault.
-fn both<A: Drop, B: Drop, S>(
-    left: Result<A, TableFault>,
-    right: Result<B, TableFault>,
-) -> Result<Either<S, Pair<A, B>>, TableFault>
+fn both<S, T: Drop>(
+    left: Result<T, TableFault>,
+    right: Result<T, TableFault>,
+) -> Result<Either<S, Pair<T, T>>, TableFault>
     ensures { result ≡ paired left right }
 {
-    match left {
-        Err(fault) => Err(fault),
-        Ok(left) => match right {
-            Err(fault) => Err(fault),
-            Ok(right) => Ok(Either::Right(Pair::new(left, right))),
-        },
-    }
+    Ok(Either::Right(Pair::new(left?, right?)))
 }
 
 // A lattice that is no pair, where a pair may stand.
-fn single<A, P>(made: Result<A, TableFault>) -> Result<Either<A, P>, TableFault>
+fn single<S, P>(made: Result<S, TableFault>) -> Result<Either<S, P>, TableFault>
     ensures { result ≡ unpaired made }
 {
-    match made {
-        Err(fault) => Err(fault),
-        Ok(one) => Ok(Either::Left(one)),
+    Ok(Either::Left(made?))
+}
+
+impl Worded for Leaf {
+    ghost Text = { LeafText };
+
+    ghost text = { leaf_text };
+
+    ghost said = { leaf_in };
+
+    fn read(heap: Global, words: &mut Words<'_>) -> Making<Leaf> {
+        let word = words.next().ok_or(ScriptFault::NoLattice)?;
+        leaf(heap, word, words)
     }
 }
 
-// A side of a pair: a pair of two leaves, or a leaf.
-fn side(heap: Global, words: &mut Words<'_>) -> Result<Result<Side, TableFault>, ScriptFault>
-    ensures { Reads (answer side_text table_refusal) result (side_in (words_left words.old)) (words_left words.new) }
-{
-    let mut ahead = *words;
-    let Some(word) = ahead.take() else {
-        return Err(ScriptFault::NoLattice);
-    };
-    if !says(word, b"pair") {
-        return Ok(single(leaf(heap, words)?));
-    }
-    *words = ahead;
-    let left = leaf(heap, words)?;
-    let right = leaf(heap, words)?;
-    Ok(both(left, right))
-}
+// A pair of two such lattices, or a lattice that is no pair.
+impl<T: Worded> Worded for Either<Leaf, Pair<T, T>> {
+    ghost use Rattle.levels.specs.declared.either.Either as either;
 
-// A pair of two sides, or a leaf.
-fn shape(heap: Global, words: &mut Words<'_>) -> Result<Result<Shape, TableFault>, ScriptFault>
-    ensures { Reads (answer shape_text table_refusal) result (shape_in (words_left words.old)) (words_left words.new) }
-{
-    let mut ahead = *words;
-    let Some(word) = ahead.take() else {
-        return Err(ScriptFault::NoLattice);
-    };
-    if !says(word, b"pair") {
-        return Ok(single(leaf(heap, words)?));
+    ghost Text = { either.Either LeafText (T.Text × T.Text) };
+
+    ghost text = { pair_or_one leaf_text T.text };
+
+    ghost said = { pair_in T.said };
+
+    fn read(heap: Global, words: &mut Words<'_>) -> Making<Either<Leaf, Pair<T, T>>> {
+        let word = words.next().ok_or(ScriptFault::NoLattice)?;
+        if !says(word, b"pair") {
+            return Ok(single(leaf(heap, word, words)?));
+        }
+        let left = T::read(heap, words)?;
+        let right = T::read(heap, words)?;
+        Ok(both(left, right))
     }
-    *words = ahead;
-    let left = side(heap, words)?;
-    let right = side(heap, words)?;
-    Ok(both(left, right))
 }
 
 /// Makes the lattice that the words of a line write. A fault of the script comes before any refusal.
-pub fn lattice(heap: Global, mut words: Words<'_>) -> Result<Result<Shape, TableFault>, ScriptFault>
+pub fn lattice(heap: Global, mut words: Words<'_>) -> Making<Shape>
     ensures { Makes (answer shape_text table_refusal) result (lattice_of (words_left words.entry)) }
 {
-    let made = shape(heap, &mut words)?;
-    match words.take() {
+    let made = Shape::read(heap, &mut words)?;
+    match words.next() {
         None => Ok(made),
         Some(_) => Err(ScriptFault::NoLattice),
     }

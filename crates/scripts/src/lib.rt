@@ -1,6 +1,7 @@
 //! Scenario scripts: the text of a script, its commands, and the transcript.
 #![tactic(auto)]
 
+mod arguments;
 pub mod draft;
 pub mod fault;
 pub mod hex;

@@ -1,22 +1,29 @@
 //! What a script has made so far, and its commands.
-use crate::draft::Draft;
+use crate::draft::{Draft, Owner};
 use crate::transcript::Transcript;
+use layout::lists::OwnedLists;
 use std::alloc::Global;
 
 pub mod commands;
 pub mod obey;
+
+/// One of the three byte lists of a program.
+#[derive(Clone, Copy, PartialEq, Eq, Debug)]
+pub enum Section {
+    Nodes,
+    Functions,
+    Apps,
+}
 
 /// The commands that follow `scenario`.
 #[derive(Clone, Copy, PartialEq, Eq, Debug)]
 pub enum Command {
     Lattice,
     Book,
-    Levels,
-    Figures,
+    Levels(Owner),
     Policy,
-    Nodes,
-    Functions,
-    Apps,
+    // Bytes in hexadecimal.
+    Add(Section),
     Clear,
 }
 
@@ -29,23 +36,13 @@ pub struct Tally {
     refused: u64,
 }
 
-/// The three byte lists of a program.
-#[derive(Drop)]
-pub struct Source {
-    nodes: Vec<u8>,
-    functions: Vec<u8>,
-    apps: Vec<u8>,
-}
-
 /// A script that is being obeyed.
 #[derive(Drop)]
 pub struct Session {
     heap: Global,
-    // Whether a scenario has begun.
-    begun: bool,
     // The lattice that was made, with the book that was chosen over it.
     draft: Option<Draft>,
-    source: Source,
+    source: OwnedLists,
     tally: Tally,
     transcript: Transcript,
 }

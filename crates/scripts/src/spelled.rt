@@ -2,7 +2,6 @@
 ghost use Rattle.std.specs.Prelude.{◌≡◌, ℕ, List, ◌++◌, decimal, Option, OnOk};
 ghost use Rattle.std.specs.Option.{option_map};
 ghost use Rattle.scripts.specs.Spelled.{spelled_tags, spelled_rank, spelled_pair, spelled_either, by_choice, pair_text, with_rest, level_of};
-ghost use Rattle.scripts.specs.Transcripts.{said};
 
 use crate::parts::Parts;
 use crate::transcript::Transcript;
@@ -35,8 +34,9 @@ pub trait Spelled {
     fn spelled<'a>(&self, numbers: &'a [u32]) -> Option<(Self::Value, &'a [u32])>
         ensures { option_map with_rest result ≡ spelled self.now numbers.now };
 
+    // Not `Display`: a pair's level is a tuple, and none but std may write an impl for a tuple.
     fn say(value: Self::Value, transcript: &mut Transcript) -> Result<(), AllocError>
-        ensures { OnOk result (said transcript.new ≡ said transcript.old ++ text value) };
+        ensures { OnOk result (transcript.new ≡ transcript.old ++ text value) };
 }
 
 impl Spelled for Tags {
@@ -65,10 +65,7 @@ impl Spelled for OrderTable {
 
     fn spelled<'a>(&self, numbers: &'a [u32]) -> Option<(Rank, &'a [u32])> {
         let (number, rest) = numbers.split_first()?;
-        if *number > 255 {
-            return None;
-        }
-        let number = *number as u8;
+        let number = u8::try_from(*number).ok()?;
         Some((Rank { number }, rest))
     }
 

@@ -1,14 +1,14 @@
 //! A line without its comment, and its words.
-ghost use Rattle.std.specs.Prelude.{◌≡◌, [], ◌∷◌, drop, Some, MatchOption};
-ghost use Rattle.std.specs.Option.{option_map};
-ghost use Rattle.std.specs.Str.{bytes_eq};
+ghost use Rattle.std.specs.Prelude.{◌≡◌, Some};
+ghost use Rattle.std.specs.Iterator.{YieldsFirstRef, item_count};
 ghost use Rattle.std.specs.List.{slice_get};
+ghost use Rattle.std.specs.Str.{bytes_eq};
 ghost use Rattle.scripts.specs.Pieces.{pieces_of};
 ghost use Rattle.scripts.specs.Words.{words_of, words_left};
 
 use crate::pieces::cut;
 
-/// The words of a line that are still to come.
+/// The words of a line that are still to come. A copy looks ahead.
 #[derive(Clone, Copy)]
 pub struct Words<'a> {
     rest: &'a [u8],
@@ -36,32 +36,25 @@ impl<'a> Words<'a> {
         Words { rest: line }
     }
 
-    /// Takes the next word.
-    pub fn next(&mut self) -> Option<&'a [u8]>
-        ensures word { option_map (λ x. x.now) result ≡ slice_get (words_left self.old) 0 }
-        ensures left { words_left self.new ≡ drop 1 (words_left self.old) }
-    {
-        while !self.rest.is_empty() {
-            let (piece, after) = cut(self.rest, b' ');
-            self.rest = after.unwrap_or(b"");
-            if !piece.is_empty() {
-                return Some(piece);
-            }
-        }
-        None
-    }
-
-    /// Takes the next word: the words that were left begin with it.
-    pub fn take(&mut self) -> Option<&'a [u8]>
-        ensures { MatchOption result ((words_left self.old ≡ []) × (words_left self.new ≡ [])) (λ word. words_left self.old ≡ word.now ∷ words_left self.new) }
-    {
-        self.next()
-    }
-
     /// What is left of the line.
     pub fn rest(&self) -> &'a [u8]
         ensures { words_of result.now ≡ words_left self.now }
     {
         self.rest
+    }
+}
+
+impl<'a> Iterator for Words<'a> {
+    type Item = &'a [u8];
+
+    ghost next_gives = { YieldsFirstRef words_left };
+
+    ghost remaining = { item_count words_left };
+
+    fn next(&mut self) -> Option<&'a [u8]> {
+        let start = self.rest.iter().position(|x| *x != b' ')?;
+        let (word, after) = cut(&self.rest[start..], b' ');
+        self.rest = after.unwrap_or(b"");
+        Some(word)
     }
 }

@@ -29,6 +29,8 @@ impl<A: Lattice, B: Lattice> Lattice for Either<A, B> {
         }
     }
 
+    // Join and meet, lowest and highest differ in the sides' method alone: one function would take a closure for each side,
+    // no plainer.
     fn join(
         &self,
         a: Either<A::Level, B::Level>,

@@ -1,129 +1,66 @@
 //! Joins and meets, the lowest and the highest level, as the marks say.
-ghost use Rattle.std.specs.Prelude.{◌≡◌};
+ghost use Rattle.std.specs.Prelude.{◌≡◌, ◌<◌, IfSome};
 ghost use Rattle.levels.specs.Bounds.{HoldsRow, HoldsBounds};
-ghost use Rattle.levels.specs.Marks.{toward, follows, is_bound, bound, is_end, end};
+ghost use Rattle.levels.specs.Marks.{follows, is_bound, bound, is_end, end};
 
 use crate::marks::Marks;
-use crate::scan::{Test, every, lowest};
-
-// Whether d, if it lies past both a and b, lies past c.
-#[derive(Drop)]
-struct Follows<'a> {
-    marks: Marks<'a>,
-    up: bool,
-    a: u16,
-    b: u16,
-    c: u16,
-}
-
-impl<'a> Test for Follows<'a> {
-    ghost passes = { λ s d. follows s.up s.marks.rows.now s.a s.b s.c d };
-
-    fn test(&self, d: u16) -> bool {
-        !self.marks.past_both(self.up, self.a, self.b, d) || self.marks.toward(self.up, self.c, d)
-    }
-}
-
-// Whether c is the first that lies past both a and b.
-#[derive(Drop)]
-struct Bounds<'a> {
-    marks: Marks<'a>,
-    up: bool,
-    a: u16,
-    b: u16,
-}
-
-impl<'a> Test for Bounds<'a> {
-    ghost passes = { λ s c. is_bound s.up s.marks.rows.now s.a s.b c };
-
-    fn test(&self, c: u16) -> bool {
-        let follows = Follows {
-            marks: self.marks,
-            up: self.up,
-            a: self.a,
-            b: self.b,
-            c,
-        };
-        self.marks.past_both(self.up, self.a, self.b, c) && every(self.marks.count(), &follows)
-    }
-}
-
-// Whether d lies that way from c.
-#[derive(Drop)]
-struct Toward<'a> {
-    marks: Marks<'a>,
-    up: bool,
-    c: u16,
-}
-
-impl<'a> Test for Toward<'a> {
-    ghost passes = { λ s d. toward s.up s.marks.rows.now s.c d };
-
-    fn test(&self, d: u16) -> bool {
-        self.marks.toward(self.up, self.c, d)
-    }
-}
-
-// Whether all levels lie that way from c.
-#[derive(Drop)]
-struct Ends<'a> {
-    marks: Marks<'a>,
-    up: bool,
-}
-
-impl<'a> Test for Ends<'a> {
-    ghost passes = { λ s c. is_end s.up s.marks.rows.now c };
-
-    fn test(&self, c: u16) -> bool {
-        let toward = Toward {
-            marks: self.marks,
-            up: self.up,
-            c,
-        };
-        every(self.marks.count(), &toward)
-    }
-}
+use crate::scan::{every, lowest};
+use std::array;
 
 impl<'a> Marks<'a> {
+    // Whether d, if it lies past both a and b, lies past c.
+    fn follows(self, up: bool, a: u16, b: u16, c: u16, d: u16) -> bool
+        ensures { result ≡ follows up self.entry.rows.now a b c d }
+    {
+        !self.past_both(up, a, b, d) || self.toward(up, c, d)
+    }
+
+    // Whether c is the first that lies past both a and b.
+    fn is_bound(self, up: bool, a: u16, b: u16, c: u16) -> bool
+        ensures { result ≡ is_bound up self.entry.rows.now a b c }
+    {
+        self.past_both(up, a, b, c) && every(self.count(), |d| self.follows(up, a, b, c, d))
+    }
+
     /// Upwards the join of two levels, downwards their meet.
     pub fn bound(self, up: bool, a: u16, b: u16) -> Option<u16>
-        ensures { result ≡ bound up self.entry.rows.now a b }
+        ensures value { result ≡ bound up self.entry.rows.now a b }
+        ensures small { IfSome result (λ c. c < 16) }
     {
-        let bounds = Bounds {
-            marks: self,
-            up,
-            a,
-            b,
-        };
-        lowest(self.count(), &bounds)
+        lowest(self.count(), |c| self.is_bound(up, a, b, c))
+    }
+
+    // Whether all levels lie that way from c.
+    fn is_end(self, up: bool, c: u16) -> bool
+        ensures { result ≡ is_end up self.entry.rows.now c }
+    {
+        every(self.count(), |d| self.toward(up, c, d))
     }
 
     /// Upwards the lowest level, downwards the highest.
     pub fn end(self, up: bool) -> Option<u16>
-        ensures { result ≡ end up self.entry.rows.now }
+        ensures value { result ≡ end up self.entry.rows.now }
+        ensures small { IfSome result (λ c. c < 16) }
     {
-        lowest(self.count(), &Ends { marks: self, up })
+        lowest(self.count(), |c| self.is_end(up, c))
     }
 
     // The bounds of a level with each level.
     fn bound_row(self, up: bool, a: u16) -> [u8; 16]
         ensures { HoldsRow up self.entry.rows.now a result }
     {
-        let mut held = [0; 16];
-        for b in 0..self.count() {
-            held[b as usize] = self.bound(up, a, b).unwrap_or(0) as u8;
-        }
-        held
+        array::from_fn(|b| self.bound(up, a, b as u16).unwrap_or(0) as u8)
     }
 
     /// The bounds of each two levels.
     pub fn bound_table(self, up: bool) -> [[u8; 16]; 16]
         ensures { HoldsBounds up self.entry.rows.now result }
     {
-        let mut held = [[0; 16]; 16];
-        for a in 0..self.count() {
-            held[a as usize] = self.bound_row(up, a);
-        }
-        held
+        array::from_fn(
+            |a|
+                requires { a < 16 }
+                ensures { HoldsRow up self.entry.rows.now a result }
+            { self.bound_row(up, a as u16) },
+        )
     }
 }

@@ -1,6 +1,6 @@
 //! An order table as a lattice, and what its faults tell.
-ghost use Rattle.std.specs.Prelude.{◌≡◌, ◌≤◌, ◌&&◌, length};
-ghost use Rattle.levels.specs.Tables.{table_order, table_refusal, rows_of};
+ghost use Rattle.std.specs.Prelude.{◌≡◌, ◌<◌, ◌&&◌, [], slice_index, slice_index_or};
+ghost use Rattle.levels.specs.Tables.{rank, table_order, table_refusal, rows_of};
 ghost use Rattle.levels.specs.Exact.{some_rows};
 ghost use Rattle.levels.specs.RankLaws.{rank_laws};
 
@@ -35,11 +35,10 @@ impl Lattice for OrderTable {
         self.marks().marked(a.number as u16, b.number as u16)
     }
 
+    // Join and meet differ in the table alone, and look it up by `held`.
     fn join(&self, a: Rank, b: Rank) -> Rank {
         if self.are_levels(a, b) {
-            Rank {
-                number: self.joins[a.number as usize][b.number as usize],
-            }
+            held(&self.joins, a, b)
         } else {
             self.lowest()
         }
@@ -47,9 +46,7 @@ impl Lattice for OrderTable {
 
     fn meet(&self, a: Rank, b: Rank) -> Rank {
         if self.are_levels(a, b) {
-            Rank {
-                number: self.meets[a.number as usize][b.number as usize],
-            }
+            held(&self.meets, a, b)
         } else {
             self.lowest()
         }
@@ -64,6 +61,16 @@ impl Lattice for OrderTable {
     }
 }
 
+// What a table of bounds holds for two levels.
+fn held(bounds: &[[u8; 16]; 16], a: Rank, b: Rank) -> Rank
+    requires { (a.number < 16) × (b.number < 16) }
+    ensures { result ≡ rank (slice_index (slice_index_or bounds.now a.number []) b.number) }
+{
+    Rank {
+        number: bounds[a.number as usize][b.number as usize],
+    }
+}
+
 impl OrderTable {
     fn are_levels(&self, a: Rank, b: Rank) -> bool
         ensures { result ≡ ((table_order self.now).is_level a && (table_order self.now).is_level b) }
@@ -75,6 +82,8 @@ impl OrderTable {
     fn marks(&self) -> Marks<'_>
         ensures { result.rows.now ≡ rows_of self.now }
     {
-        Marks::new(&self.rows[0..self.count as usize])
+        Marks {
+            rows: &self.rows[..self.count as usize],
+        }
     }
 }

@@ -5,8 +5,8 @@ ghost use Rattle.layout.specs.Decoding.{byte};
 ghost use Rattle.reading.specs.Reading.{program_code};
 
 use crate::program::Program;
-use crate::view::{no_function, no_node};
 use layout::decode;
+use layout::entry::Entry;
 use layout::function::Function;
 use layout::node::{Command, Expression, Node};
 
@@ -33,22 +33,14 @@ impl Program {
     pub fn node(&self, i: u16) -> Node
         ensures { result ≡ node (program_code self.now) i }
     {
-        if (i as usize) < self.nodes.len() {
-            self.nodes[i as usize]
-        } else {
-            no_node()
-        }
+        Node::get_or_absent(&self.nodes, i)
     }
 
     /// The function of a number, and one with no slots where there is none.
     pub fn function(&self, g: u16) -> Function
         ensures { result ≡ function (program_code self.now) g }
     {
-        if (g as usize) < self.functions.len() {
-            self.functions[g as usize]
-        } else {
-            no_function()
-        }
+        Function::get_or_absent(&self.functions, g)
     }
 
     /// The permission set of an app, and the empty one where there is none.
@@ -68,6 +60,7 @@ impl Program {
         }
     }
 
+    // Apart from the expression's: the variant that a pattern names can be no parameter.
     /// The command that a node is, and a nothing where it is none.
     pub fn command(&self, i: u16) -> Command
         ensures { result ≡ command (program_code self.now) i }

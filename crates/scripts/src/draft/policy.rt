@@ -1,22 +1,22 @@
 //! The answer of `policy`.
-ghost use Rattle.std.specs.Prelude.{◌≡◌, Bool, ◌++◌, is_ok, IfOk};
-ghost use Rattle.levels.specs.Refusals.{answer, within_memory};
-ghost use Rattle.levels.specs.declared.refusal.Layer.TheVariants.{Books};
-ghost use Rattle.books.specs.Made.{book_refusal};
-ghost use Rattle.scripts.specs.Policies.{policy_text, plan_verdict};
-ghost use Rattle.scripts.specs.Scenes.{sketch, sketch_verdict, Silent, Tells};
-ghost use Rattle.scripts.specs.Transcripts.{said};
+ghost use Rattle.std.specs.Prelude.{◌≡◌, ◌++◌, is_ok, IfOk, OnOk};
+ghost use Rattle.levels.specs.Refusals.{answer};
+ghost use Rattle.books.specs.Made.{book_refusal, list_verdict};
+ghost use Rattle.scripts.specs.Policies.{policy_text, plan_verdict, TellsOf};
+ghost use Rattle.scripts.specs.Scenes.{sketch, sketch_verdict, Tells};
 
 use crate::draft::{BookKind, BookPlan, Draft};
 use crate::fault::ScriptFault;
-use crate::policy::say_book;
 use crate::shape::Shape;
 use crate::spelled::Spelled;
 use crate::transcript::Transcript;
 use books::TypeBook;
+use books::arrangement::Arrangement;
 use books::fault::BookFault;
-use books::fixed::FixedBook;
-use books::row::RowBook;
+use books::fixed::Fixed;
+use books::list::ListBook;
+use books::numbers::Numbers;
+use books::row::Rows;
 use levels::refusal::Fault;
 use std::alloc::{AllocError, Global};
 
@@ -25,12 +25,13 @@ fn say_made<S: Spelled, B: TypeBook<Level = S::Value> + Drop>(
     making: Result<B, BookFault>,
     transcript: &mut Transcript,
 ) -> Result<bool, AllocError>
-    ensures { IfOk result (λ good. (good ≡ is_ok making) × (said transcript.new ≡ said transcript.old ++ policy_text S.Spelled.text (answer B.TypeBook.meaning book_refusal making))) }
+    ensures made { IfOk result (λ good. good ≡ is_ok making) }
+    ensures told { OnOk result (transcript.new ≡ transcript.old ++ policy_text S.Spelled.text (answer B.TypeBook.meaning book_refusal making)) }
 {
     match making {
         Ok(book) => {
             transcript.say("policy: made\n")?;
-            say_book::<S, B>(&book, transcript)?;
+            transcript.say_book::<S, B>(&book)?;
             Ok(true)
         }
         Err(fault) => {
@@ -39,6 +40,20 @@ fn say_made<S: Spelled, B: TypeBook<Level = S::Value> + Drop>(
             Ok(false)
         }
     }
+}
+
+// Makes a book of lists and shows it.
+fn say_lists<S: Spelled, A: Arrangement>(
+    heap: Global,
+    numbers: Numbers,
+    levels: &[S::Value],
+    figures: &[S::Value],
+    transcript: &mut Transcript,
+) -> Result<bool, AllocError>
+    ensures { IfOk result (λ good. TellsOf (list_verdict A.places numbers levels.now figures.now) S.Spelled.text good transcript.old transcript.new) }
+{
+    let making = ListBook::new(heap, numbers, levels, figures);
+    say_made::<S, ListBook<S::Value, A>>(making, transcript)
 }
 
 impl BookPlan {
@@ -50,30 +65,12 @@ impl BookPlan {
         figures: &[S::Value],
         transcript: &mut Transcript,
     ) -> Result<bool, AllocError>
-        ensures { IfOk result (λ good. ((lacking : Bool) × (good ≡ is_ok (within_memory lacking Books (plan_verdict self levels.now figures.now))) × (said transcript.new ≡ said transcript.old ++ policy_text S.Spelled.text (within_memory lacking Books (plan_verdict self levels.now figures.now))))) }
+        ensures { IfOk result (λ good. TellsOf (plan_verdict self levels.now figures.now) S.Spelled.text good transcript.old transcript.new) }
     {
         match self.kind {
-            BookKind::Row => {
-                let making = RowBook::new(
-                    heap,
-                    self.permissions,
-                    self.types,
-                    self.figures,
-                    levels,
-                    figures,
-                );
-                say_made::<S, RowBook<S::Value>>(making, transcript)
-            }
+            BookKind::Row => say_lists::<S, Rows>(heap, self.numbers, levels, figures, transcript),
             BookKind::Fixed => {
-                let making = FixedBook::new(
-                    heap,
-                    self.permissions,
-                    self.types,
-                    self.figures,
-                    levels,
-                    figures,
-                );
-                say_made::<S, FixedBook<S::Value>>(making, transcript)
+                say_lists::<S, Fixed>(heap, self.numbers, levels, figures, transcript)
             }
         }
     }
@@ -82,18 +79,10 @@ impl BookPlan {
 impl Draft {
     /// Makes the book that was chosen of the levels that were given, and shows it.
     pub fn say_policy(&self, heap: Global, transcript: &mut Transcript) -> Result<bool, ScriptFault>
-        ensures made { Tells result (λ lacking. sketch_verdict lacking (sketch self.now)) (said transcript.old) (said transcript.new) }
-        ensures silent { Silent result (said transcript.old) (said transcript.new) }
+        ensures { Tells result (λ lacking. sketch_verdict lacking (sketch self.now)) transcript.old transcript.new }
     {
-        let Some(plan) = self.plan else {
-            return Err(ScriptFault::WantsBook);
-        };
-        let good = plan.say_policy::<Shape>(
-            heap,
-            self.levels.as_slice(),
-            self.figures.as_slice(),
-            transcript,
-        )?;
+        let plan = self.plan.ok_or(ScriptFault::WantsBook)?;
+        let good = plan.say_policy::<Shape>(heap, &self.levels, &self.figures, transcript)?;
         Ok(good)
     }
 }

@@ -1,61 +1,21 @@
 //! The commands of a script.
-ghost use Rattle.std.specs.Prelude.{◌≡◌, Ok, Err, MatchResult};
-ghost use Rattle.scripts.specs.Drafts.{last};
-ghost use Rattle.scripts.specs.Scenes.{Answered, Silent, scene, bytes_in, no_bytes, only_word, scenario_begun, Latticed, book_chosen, levels_given, figures_given, AnsweredWithin, policy_told, nodes_added, functions_added, apps_added, cleared};
-ghost use Rattle.scripts.specs.Scripts.{opening};
-ghost use Rattle.scripts.specs.Transcripts.{said};
+ghost use Rattle.std.specs.Prelude.{◌≡◌};
+ghost use Rattle.scripts.specs.Scenes.{Does, scene};
+ghost use Rattle.scripts.specs.Scripts.{Acts, Begins, opening};
 ghost use Rattle.scripts.specs.Words.{words_left};
+ghost use Rattle.scripts.specs.declared.session.Command.TheVariants.{Lattice, Book, Levels, Policy, Add, Clear};
 
-use crate::draft::{BookPlan, Draft};
+use crate::arguments::{no_more, only_word};
+use crate::draft::{BookPlan, Draft, Owner};
 use crate::fault::ScriptFault;
 use crate::hex::append_hex;
 use crate::lattice_words::lattice;
-use crate::session::{Session, Source, Tally};
+use crate::session::{Section, Session, Tally};
 use crate::transcript::Transcript;
 use crate::words::Words;
+use layout::lists::OwnedLists;
 use levels::refusal::Fault;
 use std::alloc::Global;
-
-// That no word is left.
-fn no_more(mut words: Words<'_>) -> Result<(), ScriptFault>
-    ensures { result ≡ last tt (words_left words.entry) }
-{
-    match words.take() {
-        None => Ok(()),
-        Some(_) => Err(ScriptFault::ExtraWord),
-    }
-}
-
-// The one word that is left.
-fn only_word<'a>(mut words: Words<'a>) -> Result<&'a [u8], ScriptFault>
-    ensures { MatchResult result (λ word. only_word (words_left words.entry) ≡ Ok word.now) (λ e. only_word (words_left words.entry) ≡ Err e) }
-{
-    let Some(word) = words.take() else {
-        return Err(ScriptFault::MissingWord);
-    };
-    no_more(words)?;
-    Ok(word)
-}
-
-impl Source {
-    pub fn new(heap: Global) -> Source
-        ensures { bytes_in result ≡ no_bytes }
-    {
-        Source {
-            nodes: Vec::new(heap),
-            functions: Vec::new(heap),
-            apps: Vec::new(heap),
-        }
-    }
-
-    fn clear(&mut self)
-        ensures { bytes_in self.new ≡ no_bytes }
-    {
-        self.nodes.clear();
-        self.functions.clear();
-        self.apps.clear();
-    }
-}
 
 impl Session {
     /// Nothing done yet.
@@ -64,9 +24,12 @@ impl Session {
     {
         Session {
             heap,
-            begun: false,
             draft: None,
-            source: Source::new(heap),
+            source: OwnedLists {
+                nodes: Vec::new(heap),
+                functions: Vec::new(heap),
+                apps: Vec::new(heap),
+            },
             tally: Tally {
                 scenarios: 0,
                 made: 0,
@@ -77,14 +40,12 @@ impl Session {
     }
 
     pub fn scenario(&mut self, words: Words<'_>) -> Result<(), ScriptFault>
-        ensures made { Answered result (scenario_begun (scene self.old) (words_left words.entry)) (scene self.new) }
-        ensures silent { Silent result (said self.old.transcript) (said self.new.transcript) }
+        ensures { Does Begins self.old (words_left words.entry) result self.new }
     {
         let name = only_word(words)?;
         self.transcript.say("scenario ")?;
         self.transcript.copy(name)?;
         self.transcript.say("\n")?;
-        self.begun = true;
         self.draft = None;
         self.source.clear();
         self.tally.scenarios = self.tally.scenarios.saturating_add(1);
@@ -92,8 +53,7 @@ impl Session {
     }
 
     pub fn lattice(&mut self, words: Words<'_>) -> Result<(), ScriptFault>
-        ensures made { Latticed (scene self.old) (words_left words.entry) result (scene self.new) }
-        ensures silent { Silent result (said self.old.transcript) (said self.new.transcript) }
+        ensures { Does (Acts Lattice) self.old (words_left words.entry) result self.new }
     {
         match lattice(self.heap, words)? {
             Ok(shape) => {
@@ -110,8 +70,7 @@ impl Session {
     }
 
     pub fn book(&mut self, words: Words<'_>) -> Result<(), ScriptFault>
-        ensures made { Answered result (book_chosen (scene self.old) (words_left words.entry)) (scene self.new) }
-        ensures silent { Silent result (said self.old.transcript) (said self.new.transcript) }
+        ensures { Does (Acts Book) self.old (words_left words.entry) result self.new }
     {
         let plan = BookPlan::read(words)?;
         if let Some(draft) = &mut self.draft {
@@ -120,34 +79,19 @@ impl Session {
         Ok(())
     }
 
-    pub fn levels(&mut self, words: Words<'_>) -> Result<(), ScriptFault>
-        ensures made { Answered result (levels_given (scene self.old) (words_left words.entry)) (scene self.new) }
-        ensures silent { Silent result (said self.old.transcript) (said self.new.transcript) }
+    pub fn levels(&mut self, owner: Owner, words: Words<'_>) -> Result<(), ScriptFault>
+        ensures { Does (Acts (Levels owner)) self.old (words_left words.entry) result self.new }
     {
-        let Some(draft) = &mut self.draft else {
-            return Err(ScriptFault::WantsLattice);
-        };
-        draft.add_type_levels(words)
-    }
-
-    pub fn figures(&mut self, words: Words<'_>) -> Result<(), ScriptFault>
-        ensures made { Answered result (figures_given (scene self.old) (words_left words.entry)) (scene self.new) }
-        ensures silent { Silent result (said self.old.transcript) (said self.new.transcript) }
-    {
-        let Some(draft) = &mut self.draft else {
-            return Err(ScriptFault::WantsLattice);
-        };
-        draft.add_figure_levels(words)
+        let draft = self.draft.as_mut().ok_or(ScriptFault::WantsLattice)?;
+        draft.add_levels(owner, words)?;
+        Ok(())
     }
 
     pub fn policy(&mut self, words: Words<'_>) -> Result<(), ScriptFault>
-        ensures made { AnsweredWithin result (λ lacking. policy_told lacking (scene self.old) (words_left words.entry)) (scene self.new) }
-        ensures silent { Silent result (said self.old.transcript) (said self.new.transcript) }
+        ensures { Does (Acts Policy) self.old (words_left words.entry) result self.new }
     {
         no_more(words)?;
-        let Some(draft) = &self.draft else {
-            return Err(ScriptFault::WantsLattice);
-        };
+        let draft = self.draft.as_ref().ok_or(ScriptFault::WantsLattice)?;
         if draft.say_policy(self.heap, &mut self.transcript)? {
             self.tally.made = self.tally.made.saturating_add(1);
         } else {
@@ -156,33 +100,19 @@ impl Session {
         Ok(())
     }
 
-    pub fn nodes(&mut self, words: Words<'_>) -> Result<(), ScriptFault>
-        ensures made { Answered result (nodes_added (scene self.old) (words_left words.entry)) (scene self.new) }
-        ensures silent { Silent result (said self.old.transcript) (said self.new.transcript) }
+    pub fn add(&mut self, section: Section, words: Words<'_>) -> Result<(), ScriptFault>
+        ensures { Does (Acts (Add section)) self.old (words_left words.entry) result self.new }
     {
-        append_hex(&mut self.source.nodes, words.rest())?;
-        Ok(())
-    }
-
-    pub fn functions(&mut self, words: Words<'_>) -> Result<(), ScriptFault>
-        ensures made { Answered result (functions_added (scene self.old) (words_left words.entry)) (scene self.new) }
-        ensures silent { Silent result (said self.old.transcript) (said self.new.transcript) }
-    {
-        append_hex(&mut self.source.functions, words.rest())?;
-        Ok(())
-    }
-
-    pub fn apps(&mut self, words: Words<'_>) -> Result<(), ScriptFault>
-        ensures made { Answered result (apps_added (scene self.old) (words_left words.entry)) (scene self.new) }
-        ensures silent { Silent result (said self.old.transcript) (said self.new.transcript) }
-    {
-        append_hex(&mut self.source.apps, words.rest())?;
+        match section {
+            Section::Nodes => append_hex(&mut self.source.nodes, words.rest())?,
+            Section::Functions => append_hex(&mut self.source.functions, words.rest())?,
+            Section::Apps => append_hex(&mut self.source.apps, words.rest())?,
+        }
         Ok(())
     }
 
     pub fn clear(&mut self, words: Words<'_>) -> Result<(), ScriptFault>
-        ensures made { Answered result (cleared (scene self.old) (words_left words.entry)) (scene self.new) }
-        ensures silent { Silent result (said self.old.transcript) (said self.new.transcript) }
+        ensures { Does (Acts Clear) self.old (words_left words.entry) result self.new }
     {
         no_more(words)?;
         self.source.clear();

@@ -1,14 +1,12 @@
-use Rattle.std.proofs.Common.{sym, refl}
-use Rattle.levels.specs.Scan.{every}
-use Rattle.levels.specs.Scans.{every_more, every_broken}
+use Rattle.std.proofs.Common.{◌≡◌, true, false, refl, sym, rules}
+use Rattle.std.proofs.lemmas.Iterator.{cases_from_all, YieldsList-from_range}
+use native.Mathlib.Numerals.{unary_clauses}
+use Rattle.levels.specs.Scans.{every_from_walk}
 use Rattle.levels.proofs.scan.every.Goals as goal
 
-pub returns-then-not-test : goal.returns-then-not-test
-returns-then-not-test g c = sym (every_broken _ _ _ c.loop-i-test.true (sym c.if-not-test.ensures))
-
-pub loop-i-preserved : goal.loop-i-preserved
-loop-i-preserved g c = every_more _ _ c.loop-i.invariant (sym c.if-not-test.ensures)
-
-pub loop-i-init : goal.loop-i-init
-unfolding every
-loop-i-init g c = refl
+pub returns : goal.returns
+returns g c = λ passes tells.
+    every_from_walk passes c.args.n c.all.result
+    (simp unary_clauses at (cases_from_all _ _ _ (λ x. passes x ≡ true) (λ x. passes x ≡ false) c.all.ensures.ran (YieldsList-from_range 0 c.args.n _ refl refl)
+    (λ x q k. (search rules, sym (tells x true (search rules))))
+    (λ x q k. sym (tells x false (search rules)))))

@@ -1,14 +1,19 @@
-use Rattle.std.proofs.Common.{sym, refl}
-use Rattle.levels.specs.Scan.{lowest}
-use Rattle.levels.specs.Scans.{lowest_more, lowest_found}
+use Rattle.std.proofs.Common.{◌≡◌, ℕ, ◌<◌, ◌≤◌, true, false, Option, Some, None, MatchOption, IfSome, sym, rules}
+use Rattle.std.specs.Bool.{⊤}
+use Rattle.std.proofs.lemmas.Iterator.{first_from_Range}
+use Rattle.levels.specs.Scans.{lowest_from_first}
 use Rattle.levels.proofs.scan.lowest.Goals as goal
 
-pub returns-then-test : goal.returns-then-test
-returns-then-test g c = sym (lowest_found _ _ _ c.loop-i-test.true c.loop-i.invariant (sym c.if-test.ensures))
+pub returns-clause-first : goal.returns-clause-first
+returns-clause-first g c = λ passes tells.
+    lowest_from_first passes c.args.n c.find.result
+    (first_from_Range _ _ _ _ (λ x. passes x ≡ true) (λ x. passes x ≡ false) c.find.ensures.ran
+    (λ x q k. sym (tells x true (search rules)))
+    (λ x q k. (search rules, sym (tells x false (search rules)))))
 
-pub loop-i-preserved : goal.loop-i-preserved
-loop-i-preserved g c = lowest_more _ _ c.loop-i.invariant (sym c.if-test.ensures)
-
-pub loop-i-init : goal.loop-i-init
-unfolding lowest
-loop-i-init g c = refl
+pub returns-clause-below : goal.returns-clause-below
+returns-clause-below g c = inside c.find.result (first_from_Range _ _ _ _ (λ x. ⊤) (λ x. ⊤) c.find.ensures.ran (λ x q k. tt) (λ x q k. (search rules, tt)))
+  where
+    inside : (o : Option ℕ) → MatchOption o ((k : ℕ) → 0 ≤ k → k < c.args.n → ⊤) (λ i. (0 ≤ i) × (i < c.args.n) × ⊤ × ((k : ℕ) → 0 ≤ k → k < i → ⊤)) → IfSome o (λ i. i < c.args.n)
+    inside None found = tt
+    inside (Some i) found = found.1

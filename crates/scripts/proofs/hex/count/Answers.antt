@@ -1,25 +1,23 @@
-use Rattle.std.proofs.Common.{◌+◌, ◌∷◌, length, Some, sym, ap, ◌∙◌, add-zero, zero-add, arith}
-use Rattle.scripts.proofs.Pairing.{of_digits, same_of_digits, counting, at_space, at_digit, at_other, at_end}
+use Rattle.std.proofs.Common.{◌≡◌, cond, length, Some, None, sym, ap, ◌∙◌, rules}
+use borrow.Author.Tests.{tests}
+use Rattle.std.specs.List.{list_all}
+use Rattle.std.proofs.lemmas.Iterator.{YieldsList-from_slice}
+use Rattle.std.proofs.lemmas.Iterator.Consumers.{count_from_yields_List, YieldsList-from_filter}
+use Rattle.std.proofs.lemmas.Iterator.Search.{all_from_yields_List}
+use Rattle.scripts.specs.Pieces.{other}
+use Rattle.scripts.specs.Words.{unspaced}
+use Rattle.scripts.proofs.Unspaced.{is_hex, counted}
 use Rattle.scripts.proofs.hex.count.Goals as goal
 
-pub loop-byte-init : goal.loop-byte-init
-loop-byte-init c = (omega arith, same_of_digits (counting 0) length _ (λ ds. zero-add _))
-
-pub loop-byte-preserved-then-byte-eq32 : goal.loop-byte-preserved-then-byte-eq32
-loop-byte-preserved-then-byte-eq32 c = (omega arith, sym (at_space (counting c.loop-byte.count) _ _ c.loop-byte-test.true c.if-byte-eq32.true) ∙ c.loop-byte.invariant.1)
-
-pub returns-in_err-digit : goal.returns-in_err-digit
-unfolding of_digits
-returns-in_err-digit c = c.from_residual.ensures ∙ sym (at_other (counting c.loop-byte.count) _ _ c.loop-byte-test.true c.if-byte-eq32.false c.in_err-digit.ensures) ∙ c.loop-byte.invariant.1
-
-pub loop-byte-preserved : goal.loop-byte-preserved
-loop-byte-preserved c = (
-  omega arith,
-  same_of_digits (counting (c.loop-byte.count + 1)) (λ ds. counting c.loop-byte.count (c.in_ok-digit.field-0 ∷ ds)) _ (λ ds. omega arith)
-      ∙ sym (at_digit (counting c.loop-byte.count) _ _ c.loop-byte-test.true c.if-byte-eq32.false _ c.in_ok-digit.ensures)
-      ∙ c.loop-byte.invariant.1,
-)
+pub returns-then-not-all : goal.returns-then-not-all
+returns-then-not-all c =
+    let all : c.all.result ≡ list_all is_hex c.args.text.now = all_from_yields_List is_hex _ _ _ c.all.ensures.ran (YieldsList-from_slice c.args.text.now (cc)) (λ x b q k. search (rules, tests)) in
+    sym (counted c.args.text.now ∙ ap (λ b. cond b (Some (length (unspaced c.args.text.now))) None) (sym all ∙ c.if-not-all.true))
 
 pub returns : goal.returns
-unfolding of_digits
-returns c = ap Some (sym (add-zero _)) ∙ sym (at_end (counting c.loop-byte.count) _ _ c.loop-byte-test.false) ∙ c.loop-byte.invariant.1
+returns c =
+    let all : c.all.result ≡ list_all is_hex c.args.text.now = all_from_yields_List is_hex _ _ _ c.all.ensures.ran (YieldsList-from_slice c.args.text.now (cc)) (λ x b q k. search (rules, tests)) in
+    let n : c.count.result ≡ length (unspaced c.args.text.now) =
+    count_from_yields_List c.filter.result _ c.count.ensures.ran
+    (YieldsList-from_filter _ (other 32) (YieldsList-from_slice c.args.text.now (cc)) c.filter.ensures.closure (λ x b q k. search (rules, tests))) in
+    ap Some n ∙ sym (counted c.args.text.now ∙ ap (λ b. cond b (Some (length (unspaced c.args.text.now))) None) (sym all ∙ c.if-not-all.false))

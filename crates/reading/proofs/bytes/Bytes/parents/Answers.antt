@@ -1,4 +1,4 @@
-use Rattle.std.proofs.Common.{None, sym, ap, ◌∙◌}
+use Rattle.std.proofs.Common.{None, refl, sym, ap, ◌∙◌}
 use Rattle.std.proofs.lemmas.List.{get_or-replicate}
 use Rattle.layout.specs.Tree.{parts}
 use Rattle.reading.specs.Meaning.{code_of}
@@ -11,5 +11,5 @@ loop-i-init c = λ j h. get_or-replicate 4096 j None None h ∙ sym (parent_none
 pub loop-i-preserved : goal.loop-i-preserved
 loop-i-preserved c = λ j h.
     parent_more (code_of c.args.self.now) c.loop-i.i j c.parts-parts.result _ _ _ _ _ _ _
-    (c.parts-parts.ensures ∙ ap parts c.node.ensures) c.target.ensures c.target-in-loop-i.ensures c.target-in-loop-i-2.ensures
+    (c.parts-parts.ensures ∙ ap parts c.node.ensures) refl refl refl
     (c.loop-i.invariant j h) (c.adopt.ensures j h) (c.adopt-in-loop-i.ensures j h) (c.adopt-in-loop-i-2.ensures j h)

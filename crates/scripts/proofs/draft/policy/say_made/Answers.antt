@@ -1,16 +1,14 @@
-use Rattle.std.proofs.Common.{◌++◌, is_ok, codes, sym, ap, ◌∙◌}
+use Rattle.std.proofs.Common.{◌≡◌, ◌++◌, Ok, sym, subst, append_assoc}
 use Rattle.levels.specs.Refusals.{answer}
 use Rattle.books.specs.Made.{book_refusal}
-use Rattle.scripts.specs.Policies.{policy_text, book_text}
-use Rattle.scripts.specs.Transcripts.{said}
-use Rattle.scripts.proofs.Texts.{more}
+use Rattle.scripts.specs.Policies.{policy_text}
 use Rattle.scripts.proofs.draft.policy.say_made.Goals as goal
 
-pub returns-in_ok-say_book-in-Ok : goal.returns-in_ok-say_book-in-Ok
-returns-in_ok-say_book-in-Ok g c =
+pub returns-in_ok-say_book-in-Ok-clause-told : goal.returns-in_ok-say_book-in-Ok-clause-told
+returns-in_ok-say_book-in-Ok-clause-told g c =
     let text = g.S.Spelled.text in
-    let before = said c.args.transcript.now in (
-      ap is_ok (sym c.in-Ok.is),
-      more before (codes "policy: made\n") (book_text text (g.B.TypeBook.meaning c.in-Ok.book)) c.in_ok-say-in-Ok.ensures c.in_ok-say_book-in-Ok.ensures
-          ∙ ap (λ m. before ++ policy_text text (answer g.B.TypeBook.meaning book_refusal m)) (sym c.in-Ok.is),
-    )
+    let meaning = g.B.TypeBook.meaning in
+    let before = c.args.transcript.now in
+    let after = c.say_book.new.self in
+    let told : after ≡ before ++ policy_text text (Ok (meaning c.in-Ok.book)) = rw (c.in_ok-say-in-Ok.ensures, append_assoc) at c.in_ok-say_book-in-Ok.ensures in
+    subst (λ m. after ≡ before ++ policy_text text (answer meaning book_refusal m)) (sym c.in-Ok.is) told

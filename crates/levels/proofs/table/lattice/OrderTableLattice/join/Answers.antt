@@ -6,7 +6,7 @@ use Rattle.levels.proofs.table.lattice.OrderTableLattice.join.Goals as goal
 pub returns-then-are_levels : goal.returns-then-are_levels
 returns-then-are_levels c =
     let t = c.args.self.now in
-    held_bound (rows_of t) t.lattice true _ _ _ _ t.joined (sym c.if-are_levels.ensures)
+    c.held.ensures ∙ held_bound (rows_of t) t.lattice true _ _ _ _ t.joined (sym c.if-are_levels.ensures)
 
 pub returns-else-are_levels : goal.returns-else-are_levels
 returns-else-are_levels c =
