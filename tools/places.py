@@ -233,7 +233,7 @@ def read(commit):
 def main():
     texts = read("".join(word for word in sys.argv[1:] if word != "--list"))
     found = sorted(Rules([File(path, text) for path, text in texts.items() if path.endswith(".rt")]).rows())
-    print("| point | what is counted | places |\n| --- | --- | ---: |")
+    print("| kind | what is counted | places |\n| --- | --- | ---: |")
     for point, title in enumerate(POINTS, 1):
         places = [row for row in found if row[0][0] == str(point)]
         for text, hits in places:

@@ -28,6 +28,7 @@ operator_code Divide = 0x13
 operator_code Less = 0x14
 operator_code Equal = 0x15
 
+-- what is written of a code and four operands
 abbrev pub coded : ℕ → ℕ → ℕ → ℕ → ℕ → Operands
 coded code a b c d = record { code = code; a = a; b = b; c = c; d = d }
 

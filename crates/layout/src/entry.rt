@@ -22,6 +22,7 @@ pub trait Entry<const WIDTH: usize>: Copy {
     fn bytes(self) -> [u8; WIDTH]
         ensures { result ≡ bytes self };
 
+    // No entry begins past the whole ones that the bytes hold.
     ghost past: { (xs : List ℕ) (i : ℕ) → length xs / WIDTH ≤ i → at xs i ≡ None };
 
     /// The entry of a number among those that the bytes are, and the absent one where there is none.

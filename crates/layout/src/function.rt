@@ -20,7 +20,7 @@ pub struct Function {
     pub effect: u8,
     // Its last node.
     pub body: u16,
-    // The types of its slots, 0 from `slots` on.
+    // The types of its slots, 0 from `slots` on. All sixteen, as the bytes have them.
     pub types: [u8; 16],
 }
 

@@ -2,6 +2,8 @@
 ghost use Rattle.std.specs.Prelude.{◌≡◌};
 ghost use Rattle.layout.specs.Encoding.{lists_of, written_lists, no_lists};
 
+use std::alloc::Global;
+
 /// Three byte lists, of nodes, functions and apps.
 #[derive(Clone, Copy, Debug, PartialEq, Eq)]
 pub struct Lists<'a> {
@@ -19,6 +21,17 @@ pub struct OwnedLists {
 }
 
 impl OwnedLists {
+    /// Three empty lists.
+    pub fn new(heap: Global) -> OwnedLists
+        ensures { written_lists result ≡ no_lists }
+    {
+        OwnedLists {
+            nodes: Vec::new(heap),
+            functions: Vec::new(heap),
+            apps: Vec::new(heap),
+        }
+    }
+
     pub fn view(&self) -> Lists<'_>
         ensures { lists_of result ≡ written_lists self.now }
     {

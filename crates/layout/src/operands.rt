@@ -6,7 +6,7 @@ ghost use Rattle.layout.specs.Encoding.{link, operator_code, expression_operands
 
 use crate::node::{Command, Expression, Node, Operator};
 
-/// What a node is written as: its code, and four operands of which those that it has not are 0.
+/// What a node is written as: its code, and four operands. Those that the node has not are to be 0.
 #[derive(Clone, Copy, Debug, PartialEq, Eq)]
 pub struct Operands {
     pub code: u8,
@@ -38,6 +38,7 @@ impl TryFrom<u8> for Operator {
     ghost try_from_gives = { λ code r. result_ok r ≡ operator_of code };
 
     fn try_from(code: u8) -> Result<Operator, Malformed> {
+        // The discriminants say the codes; no derive gives the way back.
         match code {
             0x10 => Ok(Operator::Add),
             0x11 => Ok(Operator::Subtract),
@@ -147,6 +148,7 @@ impl From<Expression> for Operands {
 
     fn from(e: Expression) -> Operands {
         match e {
+            // In two halves, as it is read.
             Expression::Constant(v) => Operands::new(
                 0x01,
                 0,

@@ -11,6 +11,7 @@ and_or a b c = same_from_bits _ _ (λ i. omega (arith, bit_at_and a (bit_or b c)
 pub absorb : (a b : ℕ) → bit_and a (bit_or a b) ≡ a
 absorb a b = same_from_bits _ _ (λ i. omega (arith, bit_at_and a (bit_or a b) i, bit_at_or a b i))
 
+-- inclusion: a is within b where bit_and a b ≡ a
 pub within_trans : (a b c : ℕ) → bit_and a b ≡ a → bit_and b c ≡ b → bit_and a c ≡ a
 within_trans a b c h k = ap (λ (x : ℕ). bit_and x c) (sym h) ∙ and_assoc c a b ∙ ap (bit_and a) k ∙ h
 

@@ -1,5 +1,5 @@
 -- Marks without a mistake are a lattice. Assumes nothing.
-use Rattle.std.specs.Prelude.{◌≡◌, ℕ, zero, suc, ◌<◌, ◌≤◌, Bool, true, false, not, ◌&&◌, ◌||◌, List, [], length, is_some, Some, None, Option, nat_lt, slice_index, slice_index_or, refl}
+use Rattle.std.specs.Prelude.{◌≡◌, ℕ, zero, suc, ◌<◌, ◌≤◌, Bool, true, false, cond, not, ◌&&◌, ◌||◌, List, [], length, is_some, Some, None, Option, nat_lt, slice_index, slice_index_or, refl}
 use Rattle.std.proofs.Common.{sym, ap, ◌∙◌, ⊎_elim, arith}
 use Rattle.std.specs.Option.{unwrap_or}
 use Rattle.std.proofs.lemmas.Bool.{and_parts, and_from, and_cases, and_left, and_right, not-true, not-false, both_ways, eqb-true, ltb-true, lt-ltb, false≢true}
@@ -109,6 +109,16 @@ module _ (rows : List ℕ) where
         any_default : (o : Option ℕ) → is_some o ≡ true → unwrap_or o 0 ≡ unwrap_or o d
         any_default (Some x) g = refl
         any_default None g = absurd (false≢true g)
+
+    -- and so what is answered from it, the lowest level where one of the two is none
+    pub held_or : (up : Bool) (held : List (List ℕ)) (a b d : ℕ) → HoldsBounds up rows held
+        → cond (nat_lt a (length rows) && nat_lt b (length rows)) (rank (slice_index (slice_index_or held a []) b)) (rank d) ≡ rank (unwrap_or (bound up rows a b) d)
+    held_or up held a b d holds = go (nat_lt a (length rows) && nat_lt b (length rows)) refl
+      where
+        go : (t : Bool) → (nat_lt a (length rows) && nat_lt b (length rows)) ≡ t
+            → cond t (rank (slice_index (slice_index_or held a []) b)) (rank d) ≡ rank (unwrap_or (bound up rows a b) d)
+        go true e = held_bound up held a b d holds e
+        go false e = off_bound up a b d e
 
     -- a level from which the levels below k lie that way: the bound, the other way, of one such and the next
     record Reach (up : Bool) (k : ℕ) : Type 0 where

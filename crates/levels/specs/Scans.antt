@@ -1,13 +1,11 @@
--- What `every` and `lowest` tell, and what a walk over the numbers below n has shown. Assumes nothing.
-use Rattle.std.specs.Prelude.{◌≡◌, ℕ, zero, suc, ◌<◌, ◌≤◌, Bool, true, false, cond, ◌⊎◌, length, is_some, Some, None, Option, MatchOption}
+-- What `every` and `lowest` tell. Assumes nothing.
+use Rattle.std.specs.Prelude.{◌≡◌, ℕ, zero, suc, ◌+◌, ◌<◌, ◌≤◌, Bool, true, false, cond, ◌⊎◌, is_some, Some, None, Option}
 use Rattle.std.proofs.Math.Path.{refl, ap, ap₂}
-use Rattle.std.proofs.lemmas.List.FromFn.{get_or-range_with_len, length-range_with_len}
-use Rattle.std.proofs.Common.{subst, zero-add, sym, ◌∙◌, not-suc-le-zero}
+use Rattle.std.proofs.Common.{sym, ◌∙◌, not-suc-le-zero}
 use Rattle.std.proofs.Math.Logic.{⊎_elim}
 use native.Mathlib.Omega.{arith}
 use Rattle.std.specs.Option.{unwrap_or}
-use Rattle.std.specs.Bool.{MatchBool}
-use Rattle.std.specs.List.{AllWithin, HoldsAt, range_with_len}
+use Rattle.std.proofs.lemmas.Option.{none-some}
 use Rattle.std.proofs.lemmas.Bool.{and_parts, and_from, and_left, and_right, false≢true, true≢false}
 use Rattle.levels.specs.Scan.{every, lowest, or_else, when}
 
@@ -33,16 +31,16 @@ module _ (f : ℕ → Bool) where
   every_broken (suc n) i k off =
       ⊎_elim (λ b. and_left (every n f) (f n) (every_broken n i b off)) (λ e. and_right (every n f) (f n) (ap f (sym e) ∙ off)) (last_or_before i n k)
 
-  -- nothing is found exactly where the test fails at each number
+  -- nothing is found where the test fails at each number, and the other way round
   pub lowest_absent : (n : ℕ) → ((k : ℕ) → k < n → f k ≡ false) → lowest n f ≡ None
   unfolding lowest
   lowest_absent zero h = refl
   lowest_absent (suc n) h = ap₂ or_else (lowest_absent n (λ k b. h k (omega arith))) (ap (λ b. when b n) (h n (omega arith)))
 
   neither : (n : ℕ) (o : Option ℕ) (b : Bool) → or_else o (when b n) ≡ None → (o ≡ None) × (b ≡ false)
-  neither n None true e = let z : ◌≡◌ {A = ℕ} 0 1 = cc in absurd (omega arith)
+  neither n None true e = absurd (none-some n (sym e))
   neither n None false e = (refl, refl)
-  neither n (Some x) b e = let z : ◌≡◌ {A = ℕ} 0 1 = cc in absurd (omega arith)
+  neither n (Some x) b e = absurd (none-some x (sym e))
 
   pub lowest_all : (n i : ℕ) → lowest n f ≡ None → i < n → f i ≡ false
   unfolding lowest
@@ -51,7 +49,6 @@ module _ (f : ℕ → Bool) where
       let both = neither n (lowest n f) (f n) e in
       ⊎_elim (λ b. lowest_all n i both.0 b) (λ q. ap f q ∙ both.1) (last_or_before i n lt)
 
-  -- what is found: the test passes there, and at no lower number
   pub lowest_found : (n i : ℕ) → i < n → lowest i f ≡ None → f i ≡ true → lowest n f ≡ Some i
   unfolding lowest
   lowest_found zero i k h here = absurd (not-suc-le-zero k)
@@ -60,6 +57,7 @@ module _ (f : ℕ → Bool) where
       (λ e. ap₂ or_else (ap (λ m. lowest m f) (sym e) ∙ h) (ap (λ m. cond (f m) (Some m) None) (sym e) ∙ ap (λ b. cond b (Some i) None) here))
       (last_or_before i n k)
 
+  -- what is found: the test passes there, and at no lower number
   pub record Lowest (n i : ℕ) : Type 0 where
     pub within : i < n
     pub holds : f i ≡ true
@@ -67,14 +65,14 @@ module _ (f : ℕ → Bool) where
 
   pub lowest_is : (n i : ℕ) → lowest n f ≡ Some i → Lowest n i
   unfolding lowest
-  lowest_is zero i e = let z : ◌≡◌ {A = ℕ} 0 1 = cc in absurd (omega arith)
+  lowest_is zero i e = absurd (none-some i e)
   lowest_is (suc n) i e = go (lowest n f) (f n) refl refl e (λ h. lowest_is n i h)
     where
       go : (o : Option ℕ) (b : Bool) → lowest n f ≡ o → f n ≡ b → or_else o (when b n) ≡ Some i → (lowest n f ≡ Some i → Lowest n i) → Lowest (suc n) i
       go None true eo eb h more =
           let here : n ≡ i = cc in
           record { within = omega arith; holds = ap f (sym here) ∙ eb; none_lower = λ j lt. lowest_all n j eo (omega arith) }
-      go None false eo eb h more = let z : ◌≡◌ {A = ℕ} 0 1 = cc in absurd (omega arith)
+      go None false eo eb h more = absurd (none-some i h)
       go (Some x) b eo eb h more =
           let below = more (eo ∙ h) in
           record { within = omega (arith, below.within); holds = below.holds; none_lower = below.none_lower }
@@ -121,21 +119,16 @@ module _ (f : ℕ → Bool) where
   pub nowhere_from : (n : ℕ) → ((i : ℕ) → i < n → f i ≡ false) → is_some (lowest n f) ≡ false
   nowhere_from n h = ap is_some (lowest_absent n h)
 
-  -- a search from 0 up that stops at the first number that passes finds the lowest
-  pub lowest_from_first : (n : ℕ) (r : Option ℕ)
-      → MatchOption r ((k : ℕ) → 0 ≤ k → k < n → f k ≡ false) (λ i. (0 ≤ i) × (i < n) × (f i ≡ true) × ((k : ℕ) → 0 ≤ k → k < i → f k ≡ false))
-      → r ≡ lowest n f
-  lowest_from_first n None none = sym (lowest_absent n (λ k b. none k (omega arith) b))
-  lowest_from_first n (Some i) found =
-      sym (lowest_found n i found.1 (lowest_absent i (λ k b. found.3 k (omega arith) b)) found.2)
+  -- one number more
+  pub every_more : (i : ℕ) → every i f ≡ true → f i ≡ true → every (i + 1) f ≡ true
+  every_more i h here = every_from (i + 1) (λ k b. ⊎_elim (λ q. every_at i k h q) (λ q. ap f q ∙ here) (last_or_before k i (omega arith)))
 
-  -- a walk from 0 up that stops at the first number that fails tells whether each passes
-  pub every_from_walk : (n : ℕ) (r : Bool)
-      → MatchBool r (AllWithin (λ i. f i ≡ true) (range_with_len 0 n) 0 (length (range_with_len 0 n)))
-      ((k : ℕ) × (k < length (range_with_len 0 n)) × HoldsAt (λ i. f i ≡ false) (range_with_len 0 n) k)
-      → r ≡ every n f
-  every_from_walk n true all =
-      sym (every_from n (λ i b. subst (λ k. f k ≡ true) (get_or-range_with_len 0 n i 0 b ∙ zero-add i) (all i 0 (omega arith) (omega (arith, length-range_with_len 0 n)))))
-  every_from_walk n false broken =
-      let b : broken.0 < n = omega (arith, length-range_with_len 0 n, broken.1) in
-      sym (every_broken n broken.0 b (subst (λ k. f k ≡ false) (get_or-range_with_len 0 n broken.0 0 b ∙ zero-add broken.0) (broken.2 0)))
+  pub lowest_more : (i : ℕ) → lowest i f ≡ None → f i ≡ false → lowest (i + 1) f ≡ None
+  lowest_more i h here = lowest_absent (i + 1) (λ k b. ⊎_elim (λ q. lowest_all i k h q) (λ q. ap f q ∙ here) (last_or_before k i (omega arith)))
+
+  pub lowest_at_most : (n : ℕ) → unwrap_or (lowest n f) 0 ≤ n
+  lowest_at_most n = go (lowest n f) refl
+    where
+      go : (o : Option ℕ) → lowest n f ≡ o → unwrap_or o 0 ≤ n
+      go None e = omega arith
+      go (Some i) e = omega (arith, (lowest_is n i e).within)

@@ -71,6 +71,7 @@ impl<'a> Marks<'a> {
         i < self.count() && j < self.count() && (self.rows[i as usize] >> j) % 2 == 1
     }
 
+    // Which way is a `bool` in the definitions too: an enum would be turned into it at each law.
     fn toward(self, up: bool, i: u16, j: u16) -> bool
         ensures { result ≡ toward up self.entry.rows.now i j }
     {

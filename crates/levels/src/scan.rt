@@ -5,7 +5,7 @@ ghost use Rattle.levels.specs.Scan.{Tells, every, lowest};
 /// The lowest number below `n` at which the test passes.
 pub fn lowest<F: Fn(u16) -> bool>(n: u16, test: F) -> Option<u16>
     requires { F.IsAlwaysCallable test }
-    ensures first { (passes : ℕ → Bool) → Tells (F.post test) passes → result ≡ lowest n passes }
+    ensures first { (passes : ℕ → Bool) → Tells n (F.post test) passes → result ≡ lowest n passes }
     ensures below { IfSome result (λ i. i < n) }
 {
     (0..n).find(|i| test(*i))
@@ -14,7 +14,7 @@ pub fn lowest<F: Fn(u16) -> bool>(n: u16, test: F) -> Option<u16>
 /// Whether the test passes at every number below `n`.
 pub fn every<F: Fn(u16) -> bool>(n: u16, test: F) -> bool
     requires { F.IsAlwaysCallable test }
-    ensures { (passes : ℕ → Bool) → Tells (F.post test) passes → result ≡ every n passes }
+    ensures { (passes : ℕ → Bool) → Tells n (F.post test) passes → result ≡ every n passes }
 {
     (0..n).all(|i| test(i))
 }

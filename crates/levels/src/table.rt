@@ -17,7 +17,7 @@ pub struct Rank {
 /// What follows from the marks is worked out at the making.
 #[derive(Clone, Copy)]
 pub struct OrderTable {
-    // Fixed memory: a table wants no heap, and its making cannot fail for it.
+    // Fixed memory: a table is `Copy`, and its making wants no heap.
     rows: [u16; 16],
     count: u8,
     low: u8,

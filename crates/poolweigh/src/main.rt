@@ -11,11 +11,9 @@ fn main(rt: HostRuntime) -> io::Result<ExitCode> {
     rt.stdin().read_to_end(&mut script)?;
     let (transcript, ended) = perform(rt.alloc(), script.as_slice());
     rt.stdout().write_all(transcript.bytes())?;
-    match ended {
-        Ok(()) => Ok(ExitCode::SUCCESS),
-        Err(fault) => {
-            eprintln!(rt; "{fault}")?;
-            Ok(ExitCode::FAILURE)
-        }
+    if let Err(fault) = ended {
+        eprintln!(rt; "{fault}")?;
+        return Ok(ExitCode::FAILURE);
     }
+    Ok(ExitCode::SUCCESS)
 }

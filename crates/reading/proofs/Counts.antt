@@ -1,8 +1,10 @@
 -- How often nodes are named.
-use Rattle.std.proofs.Common.{◌≡◌, ℕ, zero, suc, ◌+◌, ◌*◌, ◌≤◌, Bool, true, false, cond, eqb, Some, None, Option, refl, ap, add-one, arith}
+use Rattle.std.proofs.Common.{◌≡◌, ℕ, zero, suc, ◌+◌, ◌*◌, ◌<◌, ◌≤◌, Bool, true, false, cond, eqb, Some, None, Option, min, refl, ap, ◌∙◌, arith}
+use Rattle.std.proofs.Math.Nat.{min-eq_left}
 use Rattle.layout.specs.declared.parts.Part.{Part}
 use Rattle.layout.specs.Code.{Code, node}
 use Rattle.layout.specs.Tree.{parts, target, hit, times, namings}
+use Rattle.reading.specs.Folding.{step_at, steps_at, folded}
 
 bit_small : (b : Bool) → cond b 1 0 ≤ 1
 bit_small true = omega arith
@@ -12,24 +14,36 @@ pub hit_small : (o : Option ℕ) (j : ℕ) → hit o j ≤ 1
 hit_small None j = omega arith
 hit_small (Some b) j = bit_small (eqb b j)
 
-pub namings_none : (c : Code) (j : ℕ) → namings c 0 j ≡ 0
-unfolding namings
-namings_none c j = refl
-
-pub namings_step : (c : Code) (i j : ℕ) → namings c (i + 1) j ≡ namings c i j + times (parts (node c i)) j
-unfolding namings
-namings_step c i j = rw add-one
-
 pub namings_small : (c : Code) (i j : ℕ) → namings c i j ≤ 3 * i
 unfolding namings
 namings_small c zero j = omega arith
 namings_small c (suc i) j =
     omega (arith, namings_small c i j, hit_small (target (parts (node c i)).0) j, hit_small (target (parts (node c i)).1) j, hit_small (target (parts (node c i)).2) j)
 
-pub namings_more : (c : Code) (i j : ℕ) (ps : Option Part × Option Part × Option Part) (o₀ o₁ o₂ : Option ℕ) (w x y z : ℕ) → ps ≡ parts (node c i) → o₀ ≡ target ps.0 → o₁ ≡ target ps.1 → o₂ ≡ target ps.2 → w ≡ namings c i j → x ≡ w + hit o₀ j → y ≡ x + hit o₁ j → z ≡ y + hit o₂ j → z ≡ namings c (i + 1) j
-namings_more c i j ps o₀ o₁ o₂ w x y z e e₀ e₁ e₂ ew ex ey ez =
-    let whole : times ps j ≡ times (parts (node c i)) j = ap (λ q. times q j) e in
-    let h₀ : hit o₀ j ≡ hit (target ps.0) j = ap (λ o. hit o j) e₀ in
-    let h₁ : hit o₁ j ≡ hit (target ps.1) j = ap (λ o. hit o j) e₁ in
-    let h₂ : hit o₂ j ≡ hit (target ps.2) j = ap (λ o. hit o j) e₂ in
-    rw namings_step (omega arith)
+-- one naming more, as a number of 16 bits has it
+abbrev pub one_more : ℕ → ℕ → ℕ
+one_more n i = min (n + 1) 65535
+
+bit_adds : (b : Bool) (w : ℕ) → w < 65535 → cond b (min (w + 1) 65535) w ≡ w + cond b 1 0
+bit_adds true w h = min-eq_left (omega arith)
+bit_adds false w h = omega arith
+
+step_adds : (i : ℕ) (o : Option ℕ) (j w : ℕ) → w < 65535 → step_at one_more i o j w ≡ w + hit o j
+step_adds i None j w h = omega arith
+step_adds i (Some b) j w h = bit_adds (eqb b j) w h
+
+steps_add : (i : ℕ) (ps : Option Part × Option Part × Option Part) (j w : ℕ) → w < 65533 → steps_at one_more i ps j w ≡ w + times ps j
+steps_add i ps j w h =
+    let one = step_adds i (target ps.0) j w (omega arith) in
+    let two = step_adds i (target ps.1) j (step_at one_more i (target ps.0) j w) (omega (arith, one, hit_small (target ps.0) j)) in
+    let three = step_adds i (target ps.2) j (step_at one_more i (target ps.1) j (step_at one_more i (target ps.0) j w)) (omega (arith, one, two, hit_small (target ps.0) j, hit_small (target ps.1) j)) in
+    omega (arith, one, two, three)
+
+-- as 16 bits count the namings by so few nodes, so often is a node named
+pub namings_folded : (c : Code) (n j : ℕ) → n ≤ 4096 → folded one_more 0 c n j ≡ namings c n j
+unfolding folded namings
+namings_folded c zero j h = refl
+namings_folded c (suc n) j h =
+    let below = namings_folded c n j (omega arith) in
+    steps_add n (parts (node c n)) j (folded one_more 0 c n j) (omega (arith, below, namings_small c n j))
+    ∙ ap (λ w. w + times (parts (node c n)) j) below

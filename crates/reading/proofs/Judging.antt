@@ -1,6 +1,7 @@
 -- The verdict from the six searches.
-use Rattle.std.proofs.Common.{◌≡◌, ℕ, true, false, cond, List, length, Some, None, Option, sym, refl, ap, ◌∙◌, ⊎_elim, arith}
+use Rattle.std.proofs.Common.{◌≡◌, ℕ, true, false, cond, List, length, Some, None, Option, sym, refl, ap, ◌∙◌, ⊎_elim}
 use Rattle.std.specs.Option.{option_map}
+use Rattle.std.proofs.lemmas.Option.{none-some}
 use Rattle.std.proofs.lemmas.Bool.{cases_Bool}
 use Rattle.levels.specs.Scan.{lowest, or_else}
 use Rattle.levels.specs.declared.refusal.Refusal.{Refusal}
@@ -22,7 +23,7 @@ use Rattle.reading.specs.Verdict.{at_function, at_node, judged_nodes, judged, ru
 -- a search that found no place, and one whose fault was named
 pub found_none : {X Y : Type 0} (f : X → Y) (o : Option X) → None ≡ option_map f o → o ≡ None
 found_none f None e = refl
-found_none f (Some x) e = let z : ◌≡◌ {A = ℕ} 0 1 = cc in absurd (omega arith)
+found_none f (Some x) e = absurd (none-some _ e)
 
 -- the verdict from what the rules refused, one after the other
 pub first_refused : (ns gs ps : List ℕ) (b t : Bytes) → (b.lists.nodes.now ≡ ns) × (b.lists.functions.now ≡ gs) × (b.lists.apps.now ≡ ps) → None ≡ sizes_refused ns gs ps → t ≡ b
@@ -34,7 +35,7 @@ first_refused ns gs ps b t same sized same_tree e₅ e₆ e₇ e₈ e₉ e₁₀
   where
     fits : sizes_fit (length ns) (length gs) (length ps) ≡ true
     fits = ⊎_elim (λ (q : sizes_fit (length ns) (length gs) (length ps) ≡ true). q)
-        (λ (q : sizes_fit (length ns) (length gs) (length ps) ≡ false). let h : ◌≡◌ {A = Option Refusal} None (Some (broken 4 Whole)) = sized ∙ ap (λ x. cond x None (Some (broken 4 Whole))) q in let z : ◌≡◌ {A = ℕ} 0 1 = cc in absurd (omega arith))
+        (λ (q : sizes_fit (length ns) (length gs) (length ps) ≡ false). let h : ◌≡◌ {A = Option Refusal} None (Some (broken 4 Whole)) = sized ∙ ap (λ x. cond x None (Some (broken 4 Whole))) q in absurd (none-some _ h))
         (cases_Bool _)
 
     judged_as : judged b.lists.nodes.now b.lists.functions.now (code_of b) ≡ judged ns gs (decoded ns gs ps)
@@ -49,15 +50,3 @@ of_searches o₁ o₂ o₃ o₄ o₅ o₆ = or_else (at_function 5 o₁) (or_els
 pub judged_is : (ns gs : List ℕ) (c : Code) {o₁ o₂ o₃ o₄ o₅ o₆ : Option ℕ} → lowest (length c.functions) (record_broken gs c) ≡ o₁ → lowest (length c.nodes) (code_broken ns c) ≡ o₂ → lowest (length c.nodes) (naming_broken c) ≡ o₃ → lowest (length c.nodes) (call_broken c) ≡ o₄ → lowest (length c.nodes) (once_broken c) ≡ o₅ → lowest (length c.nodes) (scope_broken c) ≡ o₆ → of_searches o₁ o₂ o₃ o₄ o₅ o₆ ≡ judged ns gs c
 unfolding judged judged_nodes
 judged_is ns gs c e₁ e₂ e₃ e₄ e₅ e₆ = rw (e₁, e₂, e₃, e₄, e₅, e₆)
-
-pub nodes_judged : (ns : List ℕ) (c : Code) {o₂ o₃ o₄ o₅ o₆ : Option ℕ} → lowest (length c.nodes) (code_broken ns c) ≡ o₂ → lowest (length c.nodes) (naming_broken c) ≡ o₃ → lowest (length c.nodes) (call_broken c) ≡ o₄ → lowest (length c.nodes) (once_broken c) ≡ o₅ → lowest (length c.nodes) (scope_broken c) ≡ o₆ → of_searches None o₂ o₃ o₄ o₅ o₆ ≡ judged_nodes ns c
-unfolding judged_nodes
-nodes_judged ns c e₂ e₃ e₄ e₅ e₆ = rw (e₂, e₃, e₄, e₅, e₆)
-
-pub judged_some : (ns gs : List ℕ) (c : Code) (g : ℕ) → lowest (length c.functions) (record_broken gs c) ≡ Some g → at_function 5 (Some g) ≡ judged ns gs c
-unfolding judged
-judged_some ns gs c g e = rw e
-
-pub judged_none : (ns gs : List ℕ) (c : Code) → lowest (length c.functions) (record_broken gs c) ≡ None → judged_nodes ns c ≡ judged ns gs c
-unfolding judged
-judged_none ns gs c e = rw e

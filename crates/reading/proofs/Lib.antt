@@ -7,6 +7,7 @@ pub mod Made
 pub mod Counts
 pub mod Chains
 pub mod Parents
+pub mod Folds
 pub mod Filling
 pub mod Opening
 pub mod Facts

@@ -1,10 +1,12 @@
 -- What is named lies lower, and so a walk up ends.
-use Rattle.std.proofs.Common.{◌≡◌, ℕ, zero, suc, ◌+◌, ◌<◌, ◌≤◌, true, false, cond, ◌&&◌, eqb, ltb, leb, length, Some, None, Option, sym, refl, ap, ◌∙◌, ⊎_elim, add-one, arith}
+use Rattle.std.proofs.Common.{◌≡◌, ℕ, zero, suc, ◌+◌, ◌<◌, ◌≤◌, Bool, true, false, cond, ◌&&◌, eqb, ltb, leb, length, Some, None, Option, sym, refl, ap, ◌∙◌, ⊎_elim, arith}
 use Rattle.std.proofs.lemmas.Bool.{and_parts, not-false, ltb-true, eqb-true, cases_Bool, cond-true, cond-false, cases_lt}
 use Rattle.std.proofs.lemmas.Bool.Decides.{nat_tests}
+use Rattle.std.proofs.lemmas.Option.{none-some}
 use Rattle.layout.specs.declared.parts.Part.{Part}
 use Rattle.layout.specs.Code.{Code, node, start, owner, is_a}
 use Rattle.layout.specs.Tree.{parts, target, hit, times}
+use Rattle.reading.specs.Folding.{step_at, steps_at, folded}
 use Rattle.reading.specs.NamingRule.{lies, part_fits, all_fit, ends_well, naming_broken}
 use Rattle.reading.specs.ScopeRule.{parent, within, below_parent, scope}
 
@@ -33,18 +35,10 @@ named_lower c i j e h =
     (cases_lt 0 (hit (target (parts (node c i)).1) j)))
     (cases_lt 0 (hit (target (parts (node c i)).0) j))
 
-pub parent_none : (c : Code) (j : ℕ) → parent c 0 j ≡ None
-unfolding parent
-parent_none c j = refl
-
-pub parent_step : (c : Code) (i j : ℕ) → parent c (i + 1) j ≡ cond (ltb 0 (times (parts (node c i)) j)) (Some i) (parent c i j)
-unfolding parent
-parent_step c i j = rw add-one
-
 -- a parent names its part
 pub parent_names : (c : Code) (n j p : ℕ) → parent c n j ≡ Some p → (p < n) × (0 < times (parts (node c p)) j)
 unfolding parent
-parent_names c zero j p e = let z : ◌≡◌ {A = ℕ} 0 1 = cc in absurd (omega arith)
+parent_names c zero j p e = absurd (none-some p e)
 parent_names c (suc n) j p e =
     ⊎_elim (λ (q : ltb 0 (times (parts (node c n)) j) ≡ true).
     let here : n ≡ p = same_some n p (sym (cond-true _ _ _ q) ∙ e) in
@@ -76,14 +70,30 @@ module _ (c : Code) (lower : (i j : ℕ) → i < length c.nodes → 0 < times (p
   unfolding scope
   scope_below j h = scope_stable (length c.nodes) j h (omega arith)
 
--- three adoptions in a row
-pub parent_more : (c : Code) (i j : ℕ) (ps : Option Part × Option Part × Option Part) (o₀ o₁ o₂ w x y z : Option ℕ) → ps ≡ parts (node c i) → o₀ ≡ target ps.0 → o₁ ≡ target ps.1 → o₂ ≡ target ps.2 → w ≡ parent c i j → x ≡ cond (ltb 0 (hit o₀ j)) (Some i) w → y ≡ cond (ltb 0 (hit o₁ j)) (Some i) x → z ≡ cond (ltb 0 (hit o₂ j)) (Some i) y → z ≡ parent c (i + 1) j
-parent_more c i j ps o₀ o₁ o₂ w x y z e e₀ e₁ e₂ ew ex ey ez =
-    let h₀ : hit o₀ j ≡ hit (target (parts (node c i)).0) j = ap (λ o. hit o j) (e₀ ∙ ap (λ (q : Option Part × Option Part × Option Part). target q.0) e) in
-    let h₁ : hit o₁ j ≡ hit (target (parts (node c i)).1) j = ap (λ o. hit o j) (e₁ ∙ ap (λ (q : Option Part × Option Part × Option Part). target q.1) e) in
-    let h₂ : hit o₂ j ≡ hit (target (parts (node c i)).2) j = ap (λ o. hit o j) (e₂ ∙ ap (λ (q : Option Part × Option Part × Option Part). target q.2) e) in
-    ez ∙ (ap (λ v. cond (ltb 0 (hit o₂ j)) (Some i) v) (ey ∙ ap (λ v. cond (ltb 0 (hit o₁ j)) (Some i) v) (ex ∙ ap (λ v. cond (ltb 0 (hit o₀ j)) (Some i) v) ew))
-    ∙ (joined (hit o₀ j) (hit o₁ j) (hit o₂ j) (times (parts (node c i)) j) (Some i) (parent c i j) (omega (arith, h₀, h₁, h₂)) ∙ sym (parent_step c i j)))
+-- the node that names comes in place of what was there
+abbrev pub adopted : Option ℕ → ℕ → Option ℕ
+adopted o i = Some i
+
+step_adopts : (i : ℕ) (o : Option ℕ) (j : ℕ) (w : Option ℕ) → step_at adopted i o j w ≡ cond (ltb 0 (hit o j)) (Some i) w
+step_adopts i None j w = refl
+step_adopts i (Some b) j w = by_bit (eqb b j)
+  where
+    by_bit : (x : Bool) → cond x (Some i) w ≡ cond (ltb 0 (cond x 1 0)) (Some i) w
+    by_bit true = refl
+    by_bit false = refl
+
+steps_adopt : (i : ℕ) (ps : Option Part × Option Part × Option Part) (j : ℕ) (w : Option ℕ) → steps_at adopted i ps j w ≡ cond (ltb 0 (times ps j)) (Some i) w
+steps_adopt i ps j w =
+    step_adopts i (target ps.2) j _
+    ∙ (ap (λ v. cond (ltb 0 (hit (target ps.2) j)) (Some i) v) (step_adopts i (target ps.1) j _ ∙ ap (λ v. cond (ltb 0 (hit (target ps.1) j)) (Some i) v) (step_adopts i (target ps.0) j w))
+    ∙ joined (hit (target ps.0) j) (hit (target ps.1) j) (hit (target ps.2) j) (times ps j) (Some i) w (omega arith))
   where
     joined : (a b d t : ℕ) (u v : Option ℕ) → a + b + d ≡ t → cond (ltb 0 d) u (cond (ltb 0 b) u (cond (ltb 0 a) u v)) ≡ cond (ltb 0 t) u v
     joined a b d t u v e = grind (arith, nat_tests)
+
+pub parent_folded : (c : Code) (n j : ℕ) → folded adopted None c n j ≡ parent c n j
+unfolding folded parent
+parent_folded c zero j = refl
+parent_folded c (suc n) j =
+    steps_adopt n (parts (node c n)) j (folded adopted None c n j)
+    ∙ ap (λ w. cond (ltb 0 (times (parts (node c n)) j)) (Some n) w) (parent_folded c n j)

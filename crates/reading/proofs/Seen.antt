@@ -1,6 +1,7 @@
 -- What bytes that break no rule have shown of their program.
 use Rattle.std.proofs.Common.{◌≡◌, ℕ, ◌+◌, ◌*◌, ◌/◌, ◌%◌, ◌<◌, ◌≤◌, true, false, not, ◌&&◌, eqb, leb, List, length, drop, is_some, Some, None, Option, unwrap_or, sym, refl, ap, ◌∙◌, ⊎_elim, arith, length-drop}
 use Rattle.std.proofs.lemmas.List.{length-take}
+use Rattle.std.proofs.lemmas.Option.{none-some}
 use Rattle.std.proofs.lemmas.Bool.{not-false, not_from_true, and_parts, or_parts, cases_Bool, cond-true, cond-false, leb-true, eqb-true, false≢true}
 use Rattle.std.specs.Bool.{then_some}
 use Rattle.levels.specs.Scan.{lowest}
@@ -27,12 +28,12 @@ use Rattle.reading.proofs.Judging.{of_searches, judged_is}
 
 none_found : (o₁ o₂ o₃ o₄ o₅ o₆ : Option ℕ) → of_searches o₁ o₂ o₃ o₄ o₅ o₆ ≡ None → (o₁ ≡ None) × (o₂ ≡ None) × (o₃ ≡ None) × (o₄ ≡ None) × (o₅ ≡ None) × (o₆ ≡ None)
 none_found None None None None None None e = (refl, refl, refl, refl, refl, refl)
-none_found None None None None None (Some x) e = let z : ◌≡◌ {A = ℕ} 0 1 = cc in absurd (omega arith)
-none_found None None None None (Some x) o₆ e = let z : ◌≡◌ {A = ℕ} 0 1 = cc in absurd (omega arith)
-none_found None None None (Some x) o₅ o₆ e = let z : ◌≡◌ {A = ℕ} 0 1 = cc in absurd (omega arith)
-none_found None None (Some x) o₄ o₅ o₆ e = let z : ◌≡◌ {A = ℕ} 0 1 = cc in absurd (omega arith)
-none_found None (Some x) o₃ o₄ o₅ o₆ e = let z : ◌≡◌ {A = ℕ} 0 1 = cc in absurd (omega arith)
-none_found (Some x) o₂ o₃ o₄ o₅ o₆ e = let z : ◌≡◌ {A = ℕ} 0 1 = cc in absurd (omega arith)
+none_found None None None None None (Some x) e = absurd (none-some _ (sym e))
+none_found None None None None (Some x) o₆ e = absurd (none-some _ (sym e))
+none_found None None None (Some x) o₅ o₆ e = absurd (none-some _ (sym e))
+none_found None None (Some x) o₄ o₅ o₆ e = absurd (none-some _ (sym e))
+none_found None (Some x) o₃ o₄ o₅ o₆ e = absurd (none-some _ (sym e))
+none_found (Some x) o₂ o₃ o₄ o₅ o₆ e = absurd (none-some _ (sym e))
 
 -- a record that keeps its layout
 pub kept_layout : (gs : List ℕ) (g : ℕ) → is_some (function_at gs g) ≡ true → (has 24 gs g && (padded gs g && slots_fit (record_at gs g))) ≡ true
@@ -59,7 +60,7 @@ module _ (ns gs ps : List ℕ) (good : refused ns gs ps ≡ None) where
   sized =
       ⊎_elim (λ (q : sizes_fit (length ns) (length gs) (length ps) ≡ true). q)
       (λ (q : sizes_fit (length ns) (length gs) (length ps) ≡ false).
-      let h : ◌≡◌ {A = Option Refusal} (Some (broken 4 Whole)) None = sym (cond-false _ _ _ q) ∙ good in let z : ◌≡◌ {A = ℕ} 0 1 = cc in absurd (omega arith))
+      let h : ◌≡◌ {A = Option Refusal} (Some (broken 4 Whole)) None = sym (cond-false _ _ _ q) ∙ good in absurd (none-some _ (sym h)))
       (cases_Bool (sizes_fit (length ns) (length gs) (length ps)))
 
   pub node_sizes : (length ns % 8 ≡ 0) × (1 ≤ length ns / 8) × (length ns / 8 ≤ 4096)

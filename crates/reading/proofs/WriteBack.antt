@@ -89,4 +89,4 @@ writes_back ns gs ps c small little e = go (refused ns gs ps) refl e
 
     go : (o : Option Refusal) → refused ns gs ps ≡ o → unless o (decoded ns gs ps) ≡ Ok c → encoded c ≡ lists ns gs ps
     go None good h = ap encoded (sym (inside h)) ∙ encoded_back ns gs ps small little good
-    go (Some r) bad h = let z : ◌≡◌ {A = ℕ} 0 1 = cc in absurd (omega arith)
+    go (Some r) bad h = absurd cc

@@ -5,6 +5,7 @@ pub mod NamingRule
 pub mod CallRule
 pub mod OnceRule
 pub mod ScopeRule
+pub mod Folding
 pub mod Verdict
 pub mod ReadingRefusal
 pub mod Sound

@@ -1,5 +1,5 @@
 -- What each fault of reading tells: the number of the broken rule, and its place.
-use Rattle.std.specs.Prelude.{◌≡◌, ℕ, Some, None, Ok, Err, Option, Result}
+use Rattle.std.specs.Prelude.{◌≡◌, ℕ, ◌<◌, Some, None, Ok, Err, Option, Result}
 use Rattle.levels.specs.Refusals.{broken, no_memory}
 use Rattle.levels.specs.declared.refusal.Refusal.{Refusal}
 use Rattle.levels.specs.declared.refusal.Layer.TheVariants.{Reading}
@@ -22,6 +22,6 @@ abbrev pub told : {T : Type 0} → Result T ReadingFault → Option Refusal
 told (Ok x) = None
 told (Err e) = Some (reading_refusal e)
 
--- whatever fault is named for a place, its refusal is this one
-abbrev pub Names : (ℕ → ReadingFault → Type 0) → (ℕ → Refusal) → Type 0
-Names post refusal = (i : ℕ) (fault : ReadingFault) → post i fault → reading_refusal fault ≡ refusal i
+-- whatever fault is named for a place below n, its refusal is this one
+abbrev pub Names : ℕ → (ℕ → ReadingFault → Type 0) → (ℕ → Refusal) → Type 0
+Names n post refusal = (i : ℕ) (fault : ReadingFault) → i < n → post i fault → reading_refusal fault ≡ refusal i

@@ -21,13 +21,13 @@ fn counts(width: usize, most: usize, n: usize) -> bool
     requires { 1 ≤ width }
     ensures { result ≡ counts width most n }
 {
-    n % width == 0 && 1 <= n / width && n / width <= most
+    n % width == 0 && (1..=most).contains(&(n / width))
 }
 
 fn sizes_fit(nodes: usize, functions: usize, apps: usize) -> bool
     ensures { result ≡ sizes_fit nodes functions apps }
 {
-    counts(8, 4096, nodes) && counts(24, 64, functions) && 1 <= apps && apps <= 16
+    counts(8, 4096, nodes) && counts(24, 64, functions) && (1..=16).contains(&apps)
 }
 
 impl<'a> Bytes<'a> {

@@ -11,7 +11,7 @@ ghost use Rattle.reading.specs.Verdict.{rule8};
 use crate::bytes::Bytes;
 use crate::fault::ReadingFault;
 use crate::owners::Owners;
-use crate::refuse::where_broken;
+use crate::refuse::refuse_where;
 use layout::node::{Command, Node};
 
 impl<'a> Bytes<'a> {
@@ -29,6 +29,7 @@ impl<'a> Bytes<'a> {
         ensures { result ≡ chained (code_of self.now) count first }
     {
         let mut argument = first;
+        // By `try_fold` it would say no more plainly when the chain is too short.
         for n in 0..count {
             let Some(next) = self.next_of(argument) else {
                 return false;
@@ -70,6 +71,6 @@ impl<'a> Owners<'a> {
         ensures { told result ≡ rule8 (tree_code self.now) }
     {
         let n = self.functions.bytes.node_count();
-        where_broken(n, |i| self.breaks_call(i), |i| ReadingFault::Miscalled(i))
+        refuse_where(n, |i| self.breaks_call(i), ReadingFault::Miscalled)
     }
 }

@@ -8,7 +8,7 @@ ghost use Rattle.reading.specs.Verdict.{rule6};
 
 use crate::fault::ReadingFault;
 use crate::owners::Owners;
-use crate::refuse::where_broken;
+use crate::refuse::refuse_where;
 use layout::entry::Entry;
 use layout::node::Node;
 
@@ -23,6 +23,7 @@ impl<'a> Owners<'a> {
     fn breaks_code(&self, i: u16) -> bool
         ensures { result ≡ code_broken self.now.functions.bytes.lists.nodes.now (tree_code self.now) i }
     {
+        // By `is_none_or` it was tried, and its proof did not close.
         match Node::at(self.functions.bytes.lists.nodes, i) {
             None => true,
             Some(node) => past(self.own(i).slots, node.slot()),
@@ -34,6 +35,6 @@ impl<'a> Owners<'a> {
         ensures { told result ≡ rule6 self.now.functions.bytes.lists.nodes.now (tree_code self.now) }
     {
         let n = self.functions.bytes.node_count();
-        where_broken(n, |i| self.breaks_code(i), |i| ReadingFault::Malformed(i))
+        refuse_where(n, |i| self.breaks_code(i), ReadingFault::Malformed)
     }
 }

@@ -5,7 +5,7 @@ ghost use Rattle.reading.specs.ReadingRefusal.{reading_refusal};
 use levels::refusal::{Fault, Layer, Place, Refusal};
 
 /// A broken rule of reading, at its place; or want of memory for bytes that break none.
-#[derive(Clone, Copy)]
+#[derive(Clone, Copy, PartialEq, Eq, Debug)]
 pub enum ReadingFault {
     // The counts of nodes, functions or apps break their limits, or bytes are left over.
     Sizes,
@@ -27,6 +27,7 @@ pub enum ReadingFault {
 impl Fault for ReadingFault {
     ghost tells = { reading_refusal };
 
+    // The numbers are the format's.
     fn refusal(&self) -> Refusal {
         match *self {
             ReadingFault::Sizes => Refusal::broken(4, Place::Whole),

@@ -10,6 +10,7 @@ mod judge;
 mod laws;
 mod marks;
 mod names;
+mod namings;
 mod owners;
 pub mod program;
 mod records;

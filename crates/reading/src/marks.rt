@@ -1,7 +1,7 @@
 //! Rule 9, of how often each node is named.
-ghost use Rattle.std.specs.Prelude.{◌≡◌, ℕ, ◌+◌, ◌<◌, length, slice_index};
+ghost use Rattle.std.specs.Prelude.{◌≡◌, ℕ, ◌<◌, length, slice_index};
 ghost use Rattle.levels.specs.Scan.{lowest};
-ghost use Rattle.layout.specs.Tree.{target, hit, namings};
+ghost use Rattle.layout.specs.Tree.{namings};
 ghost use Rattle.reading.specs.Meaning.{code_of};
 ghost use Rattle.reading.specs.OnceRule.{once_broken};
 ghost use Rattle.reading.specs.ReadingRefusal.{told};
@@ -11,36 +11,14 @@ ghost use Rattle.reading.specs.Verdict.{rule9};
 use crate::bytes::Bytes;
 use crate::fault::ReadingFault;
 use crate::owners::Owners;
-use crate::refuse::where_broken;
-use layout::parts::Part;
-
-// Counts one naming more.
-fn mark(marks: &mut [u16; 4096], part: Option<Part>)
-    requires { (j : ℕ) → j < 4096 → slice_index marks.old j < 65535 }
-    ensures { (j : ℕ) → j < 4096 → slice_index marks.new j ≡ slice_index marks.old j + hit (target part) j }
-{
-    if let Some(Part { node, .. }) = part {
-        // By index: after `get_mut` a proof knows nothing of the other marks.
-        if node < 4096 {
-            marks[node as usize] += 1;
-        }
-    }
-}
+use crate::refuse::refuse_where;
 
 impl<'a> Bytes<'a> {
     // How often each node is named.
     fn marks(&self) -> [u16; 4096]
         ensures { (j : ℕ) → j < 4096 → slice_index result j ≡ namings (code_of self.now) (length (code_of self.now).nodes) j }
     {
-        let mut marks = [0; 4096];
-        // By number: nodes are decoded as they are asked for, since the verdict has no heap for a list of them.
-        for i in 0..self.node_count() {
-            let parts = self.node(i).parts();
-            mark(&mut marks, parts.0);
-            mark(&mut marks, parts.1);
-            mark(&mut marks, parts.2);
-        }
-        marks
+        self.by_namings(0, |n, _| n.saturating_add(1))
     }
 }
 
@@ -80,10 +58,6 @@ impl<'a> Owners<'a> {
     {
         let marks = self.marks();
         let n = self.functions.bytes.node_count();
-        where_broken(
-            n,
-            |j| marks.breaks_once(j),
-            |j| ReadingFault::NotNamedOnce(j),
-        )
+        refuse_where(n, |j| marks.breaks_once(j), ReadingFault::NotNamedOnce)
     }
 }

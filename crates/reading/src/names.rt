@@ -11,7 +11,7 @@ ghost use Rattle.reading.specs.Verdict.{rule7};
 use crate::bytes::Bytes;
 use crate::fault::ReadingFault;
 use crate::owners::Owners;
-use crate::refuse::where_broken;
+use crate::refuse::refuse_where;
 use layout::parts::{Part, Sort};
 
 // Whether node b lies below node i of a function that begins at `low`.
@@ -25,6 +25,7 @@ impl<'a> Bytes<'a> {
     fn part_fits(&self, low: u32, i: u16, part: Option<Part>) -> bool
         ensures { result ≡ part_fits (code_of self.now) low i part }
     {
+        // By `is_none_or` it was tried, and its proof did not close.
         match part {
             None => true,
             Some(p) => lies(low, i, p.node) && self.node(p.node).sort() == p.sort,
@@ -58,12 +59,11 @@ impl<'a> Owners<'a> {
         !(ends_well && bytes.all_fit(self.functions.start(self.owner(i)), i, node.parts()))
     }
 
-    // Refuses the lowest node that breaks rule 7.
     fn names_fit(&self) -> Result<(), ReadingFault>
         ensures { told result ≡ rule7 (tree_code self.now) }
     {
         let n = self.functions.bytes.node_count();
-        where_broken(n, |i| self.breaks_naming(i), |i| ReadingFault::Misnamed(i))
+        refuse_where(n, |i| self.breaks_naming(i), ReadingFault::Misnamed)
     }
 
     /// Refuses the lowest node that breaks rule 7.

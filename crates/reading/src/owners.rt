@@ -30,6 +30,7 @@ impl<'a> Functions<'a> {
     {
         let mut owners = [0; 4096];
         let mut start = 0;
+        // By number, which is what is filled in.
         for g in 0..self.bytes.function_count() {
             let end = self.function(g).body as usize + 1;
             owners[start..end].fill(g as u8);

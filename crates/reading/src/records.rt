@@ -8,7 +8,7 @@ ghost use Rattle.reading.specs.Verdict.{rule5};
 
 use crate::fault::ReadingFault;
 use crate::functions::Functions;
-use crate::refuse::where_broken;
+use crate::refuse::refuse_where;
 use layout::entry::Entry;
 use layout::function::Function;
 
@@ -42,7 +42,7 @@ impl<'a> Functions<'a> {
         ensures { told result ≡ rule5 self.now.bytes.lists.functions.now (held_code self.now) }
     {
         let n = self.bytes.function_count();
-        where_broken(
+        refuse_where(
             n,
             |g| self.breaks_record(g),
             |g| ReadingFault::Record(g as u8),

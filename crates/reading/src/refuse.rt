@@ -9,14 +9,14 @@ use crate::fault::ReadingFault;
 use levels::scan::lowest;
 
 /// Refuses with the fault of the lowest place below n at which a rule is broken, if there is one.
-pub fn where_broken<F: Fn(u16) -> bool, G: Fn(u16) -> ReadingFault>(
+pub fn refuse_where<F: Fn(u16) -> bool, G: Fn(u16) -> ReadingFault>(
     n: u16,
     broken: F,
     fault: G,
 ) -> Result<(), ReadingFault>
     requires asked { F.IsAlwaysCallable broken }
     requires named { (i : ℕ) → i < n → G.pre fault i }
-    ensures { (breaks : ℕ → Bool) (refusal : ℕ → Refusal) → Tells (F.post broken) breaks → Names (G.post fault) refusal → told result ≡ option_map refusal (lowest n breaks) }
+    ensures { (breaks : ℕ → Bool) (refusal : ℕ → Refusal) → Tells n (F.post broken) breaks → Names n (G.post fault) refusal → told result ≡ option_map refusal (lowest n breaks) }
 {
     // What is found is the failure here, which no method of `Option` says more plainly.
     match lowest(n, broken) {

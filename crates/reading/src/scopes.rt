@@ -1,7 +1,6 @@
 //! Rule 10, of where slots may be used.
-ghost use Rattle.std.specs.Prelude.{◌≡◌, ℕ, ◌+◌, ◌<◌, false, length, if◌then◌else◌, Some, None, nat_lt, slice_index, slice_index_or};
+ghost use Rattle.std.specs.Prelude.{◌≡◌, ℕ, ◌<◌, false, length, None, slice_index, slice_index_or};
 ghost use Rattle.levels.specs.Scan.{lowest};
-ghost use Rattle.layout.specs.Tree.{target, hit};
 ghost use Rattle.reading.specs.Meaning.{code_of};
 ghost use Rattle.reading.specs.ScopeRule.{parent, adding, holds, within_command, within, scope, usable};
 ghost use Rattle.reading.specs.ScopeRule.{expression_scoped, command_scoped, scoped, scope_broken};
@@ -13,9 +12,8 @@ use crate::bytes::Bytes;
 use crate::fault::ReadingFault;
 use crate::names::Named;
 use crate::owners::Owners;
-use crate::refuse::where_broken;
+use crate::refuse::refuse_where;
 use layout::node::{Command, Expression, Node};
-use layout::parts::Part;
 
 fn adding(a: u8, set: u16) -> u16
     ensures { result ≡ adding a set }
@@ -39,32 +37,12 @@ fn within(node: Node, j: u16, set: u16) -> u16
     }
 }
 
-// Notes that the node i names the part.
-fn adopt(parents: &mut [Option<u16>; 4096], part: Option<Part>, i: u16)
-    ensures { (j : ℕ) → j < 4096 → slice_index_or parents.new j None ≡ (if nat_lt 0 (hit (target part) j) then Some i else slice_index_or parents.old j None) }
-{
-    if let Some(Part { node, .. }) = part {
-        // By index: after `get_mut` a proof knows nothing of the other parents.
-        if node < 4096 {
-            parents[node as usize] = Some(i);
-        }
-    }
-}
-
 impl<'a> Bytes<'a> {
     // The node that names each node.
     fn parents(&self) -> [Option<u16>; 4096]
         ensures { (j : ℕ) → j < 4096 → slice_index_or result j None ≡ parent (code_of self.now) (length (code_of self.now).nodes) j }
     {
-        let mut parents = [None; 4096];
-        // By number, and apart from the pass of the marks: a closure for both would hide from the proof what it writes.
-        for i in 0..self.node_count() {
-            let parts = self.node(i).parts();
-            adopt(&mut parents, parts.0, i);
-            adopt(&mut parents, parts.1, i);
-            adopt(&mut parents, parts.2, i);
-        }
-        parents
+        self.by_namings(None, |_, i| Some(i))
     }
 }
 
@@ -94,11 +72,7 @@ impl<'t, 'a> Named<'t, 'a> {
             scopes: self.scopes(),
         };
         let n = self.tree.functions.bytes.node_count();
-        where_broken(
-            n,
-            |i| scopes.breaks_scope(i),
-            |i| ReadingFault::OutOfScope(i),
-        )
+        refuse_where(n, |i| scopes.breaks_scope(i), ReadingFault::OutOfScope)
     }
 }
 

@@ -14,6 +14,7 @@ use reading::program::read::read_program;
 use std::alloc::{AllocError, Global};
 use std::io::{BufRead, BufReader};
 
+// Small letters only, which `to_digit` does not ask.
 fn digit(c: u8) -> Option<u8>
     ensures { IfSome result (λ d. d < 16) }
 {
@@ -77,8 +78,8 @@ fn put(heap: Global, list: &mut Vec<u8>, word: &str) -> anyhow::Result<()> {
     let (entry, rest) = word.split_once('*').unwrap_or((word, "1"));
     let (times, step) = rest.split_once('+').unwrap_or((rest, ""));
     let entry = group(heap, entry)?;
-    let step = group(heap, step)?;
-    repeat(list, entry, times.parse::<u32>()?, step)?;
+    let times = times.parse::<u32>()?;
+    repeat(list, entry, times, group(heap, step)?)?;
     Ok(())
 }
 

@@ -12,13 +12,13 @@ pub found : {X : Type 0} (p : X → Bool) (xs : List X) (n : ℕ) → Some n ≡
 found p xs n e = elim (ltb (position_or_len p xs) (length xs))
     as (λ b. ltb (position_or_len p xs) (length xs) ≡ b → Some n ≡ cond b (Some (position_or_len p xs)) None → (n ≡ position_or_len p xs) × (n < length xs)) [
       | true ↦ (λ t k. let same : n ≡ position_or_len p xs = cc in (same, omega (arith, ltb-true _ _ t)))
-      | false ↦ (λ t k. let z : ◌≡◌ {A = ℕ} 0 1 = cc in absurd (omega arith))
+      | false ↦ (λ t k. absurd cc)
     ] refl e
 
 pub missed : {X : Type 0} (p : X → Bool) (xs : List X) → None ≡ position p xs → length xs ≤ position_or_len p xs
 missed p xs e = elim (ltb (position_or_len p xs) (length xs))
     as (λ b. ltb (position_or_len p xs) (length xs) ≡ b → None ≡ cond b (Some (position_or_len p xs)) None → length xs ≤ position_or_len p xs)
-    [ true ↦ (λ _ k. let z : ◌≡◌ {A = ℕ} 0 1 = cc in absurd (omega arith)) | false ↦ (λ t _. ltb-false _ _ t) ] refl e
+    [ true ↦ (λ _ k. absurd cc) | false ↦ (λ t _. ltb-false _ _ t) ] refl e
 
 module _ (mark : ℕ) where
   -- the two ways of a cut

@@ -1,5 +1,5 @@
 -- The numbers of a level: one to four, with slashes between. Assumes nothing.
-use Rattle.std.specs.Prelude.{ℕ, List, length, Some, None, Option, nat_le}
+use Rattle.std.specs.Prelude.{ℕ, List, length, take, Some, None, Option, nat_le}
 use Rattle.levels.specs.Scan.{when}
 use Rattle.scripts.specs.declared.parts.Parts.{Parts}
 use Rattle.scripts.specs.Numbers.{each, number_of}
@@ -16,4 +16,4 @@ parts_of word = at_most 4 (each number_of (pieces_of 47 word))
 
 -- the numbers that were read
 abbrev pub numbers_in : Parts → List ℕ
-numbers_in p = p.numbers.items
+numbers_in p = take p.count p.numbers

@@ -1,5 +1,7 @@
 -- How a policy is shown: the levels of each type at each set, and of each figure. Assumes nothing.
-use Rattle.std.specs.Prelude.{◌≡◌, ℕ, zero, suc, ◌^◌, Bool, List, [], ◌++◌, is_ok, Some, None, Ok, Err, codes, decimal, Option, Result}
+use Rattle.std.specs.Prelude.{◌≡◌, ℕ, zero, suc, ◌^◌, Bool, List, [], ◌++◌, is_ok, Some, None, Ok, Err, codes, decimal, Option, Result, OnOk}
+use denote.Ref.{MutBor}
+use Rattle.scripts.specs.declared.transcript.Transcript.{Transcript}
 use Rattle.levels.specs.Refusals.{refusal_text, within_memory}
 use Rattle.levels.specs.declared.refusal.Layer.TheVariants.{Books}
 use Rattle.levels.specs.declared.refusal.Refusal.{Refusal}
@@ -19,6 +21,14 @@ unfoldable pub texts : (ℕ → List ℕ) → ℕ → List ℕ
 texts text zero = []
 texts text (suc k) = texts text k ++ text k
 
+-- each call that succeeds adds the text
+abbrev pub Says : {E : Type 0} → (MutBor Transcript → Result (Unit {0}) E → MutBor Transcript → Type 0) → List ℕ → Type 0
+Says post text = (old : MutBor Transcript) (r : _) (new : MutBor Transcript) → post old r new → OnOk r (new.now ≡ old.now ++ text)
+
+-- a line: what is numbered, its number, and what is said of it
+abbrev pub line : List ℕ → ℕ → List ℕ → List ℕ
+line what i said = (what ++ (codes " " ++ (decimal i ++ codes ":"))) ++ (said ++ codes "\n")
+
 module _ {L : Type 0} (text : L → List ℕ) (b : Book L) where
   -- the levels of a type at the sets below k
   abbrev pub sets_text : ℕ → ℕ → List ℕ
@@ -26,7 +36,7 @@ module _ {L : Type 0} (text : L → List ℕ) (b : Book L) where
 
   -- the line of a type
   abbrev pub type_line : ℕ → List ℕ
-  type_line t = (codes "type " ++ (decimal t ++ codes ":")) ++ (sets_text t (2 ^ b.permissions) ++ codes "\n")
+  type_line t = line (codes "type") t (sets_text t (2 ^ b.permissions))
 
   -- the lines of the types below k
   abbrev pub type_lines : ℕ → List ℕ
@@ -34,7 +44,7 @@ module _ {L : Type 0} (text : L → List ℕ) (b : Book L) where
 
   -- the line of a figure
   abbrev pub figure_line : ℕ → List ℕ
-  figure_line i = (codes "figure " ++ (decimal i ++ codes ":")) ++ (spaced text (b.figure i) ++ codes "\n")
+  figure_line i = line (codes "figure") i (spaced text (b.figure i))
 
   -- the lines of the figures below k
   abbrev pub figure_lines : ℕ → List ℕ

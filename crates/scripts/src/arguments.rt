@@ -26,10 +26,10 @@ pub fn next_number(words: &mut Words<'_>) -> Result<u32, ScriptFault>
 pub fn no_more(mut words: Words<'_>) -> Result<(), ScriptFault>
     ensures { result ≡ last tt (words_left words.entry) }
 {
-    match words.next() {
-        None => Ok(()),
-        Some(_) => Err(ScriptFault::ExtraWord),
+    if words.next().is_some() {
+        return Err(ScriptFault::ExtraWord);
     }
+    Ok(())
 }
 
 /// The one word that is left.

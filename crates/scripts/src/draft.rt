@@ -30,6 +30,7 @@ pub struct BookPlan {
     numbers: Numbers,
 }
 
+// No model: its value would hold the shape, whose tables have ghost fields. A session has none for the same reason.
 /// A lattice that was made, the book that was chosen over it, and the levels given so far.
 #[derive(Drop)]
 pub struct Draft {

@@ -42,6 +42,7 @@ fn put_all(list: &mut Vec<u8>, text: &[u8]) -> Result<(), HexFault>
     ensures bytes { MatchResult result (λ _. Some list.new.items ≡ option_map (λ ds. list.old.items ++ in_pairs ds) (digits_of Sixteen (unspaced text.now))) (λ e. is_some (digits_of Sixteen (unspaced text.now)) ≡ true → e ≡ Memory) }
     ensures front { take (vec_len list.old) list.new.items ≡ list.old.items }
 {
+    // One pass with the half of a byte in hand: a list of the digits, to pair them, would want memory.
     let mut half = None;
     for byte in text {
         if *byte == b' ' {

@@ -15,7 +15,8 @@ use levels::table::{OrderTable, TableFault};
 use levels::tags::Tags;
 use std::alloc::Global;
 
-// A lattice that was made, or why it was refused; or the words are at fault.
+// A lattice that was made, or why it was refused; or the words are at fault. Two results, since a refusal is an answer, which
+// the transcript tells, and a fault ends the script.
 type Making<T> = Result<Result<T, TableFault>, ScriptFault>;
 
 // A lattice that words can write.
@@ -37,6 +38,7 @@ fn rows(heap: Global, words: &mut Words<'_>) -> Result<Vec<u16>, ScriptFault>
 {
     let mut rows = Vec::new(heap);
     let mut ahead = *words;
+    // Not by `for`: the word that is no row stays for what reads on.
     while let Some(row) = ahead.next().and_then(number) {
         let row = u16::try_from(row).map_err(|_| ScriptFault::NoLattice)?;
         rows.push(row)?;
@@ -80,7 +82,7 @@ fn both<S, T: Drop>(
     Ok(Either::Right(Pair::new(left?, right?)))
 }
 
-// A lattice that is no pair, where a pair may stand.
+// A lattice that is no pair, where a pair may stand. Not by `map`: at a type parameter the borrow checker has no proof of it yet.
 fn single<S, P>(made: Result<S, TableFault>) -> Result<Either<S, P>, TableFault>
     ensures { result ≡ unpaired made }
 {
@@ -126,8 +128,8 @@ pub fn lattice(heap: Global, mut words: Words<'_>) -> Making<Shape>
     ensures { Makes (answer shape_text table_refusal) result (lattice_of (words_left words.entry)) }
 {
     let made = Shape::read(heap, &mut words)?;
-    match words.next() {
-        None => Ok(made),
-        Some(_) => Err(ScriptFault::NoLattice),
+    if words.next().is_some() {
+        return Err(ScriptFault::NoLattice);
     }
+    Ok(made)
 }

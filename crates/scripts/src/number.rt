@@ -5,18 +5,15 @@ ghost use Rattle.scripts.specs.Numbers.{radix, digit_of, digits_of, written, num
 /// The base that a number is written in.
 #[derive(Clone, Copy, PartialEq, Eq, Debug)]
 pub enum Base {
-    Ten,
-    Sixteen,
+    Ten = 10,
+    Sixteen = 16,
 }
 
-impl From<Base> for u32 {
-    ghost from_gives = { λ base r. r ≡ radix base };
-
-    fn from(base: Base) -> u32 {
-        match base {
-            Base::Ten => 10,
-            Base::Sixteen => 16,
-        }
+impl Base {
+    pub fn radix(self) -> u8
+        ensures { result ≡ radix self }
+    {
+        self as u8
     }
 }
 
@@ -24,7 +21,7 @@ impl From<Base> for u32 {
 pub fn digit(byte: u8, base: Base) -> Option<u8>
     ensures { result ≡ digit_of base byte }
 {
-    let value = char::from(byte).to_digit(base.into())?;
+    let value = char::from(byte).to_digit(base.radix().into())?;
     u8::try_from(value).ok()
 }
 
@@ -33,9 +30,12 @@ fn digits(text: &[u8], base: Base) -> Option<u32>
     ensures { result ≡ written base (digits_of base text.now) }
 {
     let mut value: u32 = 0;
+    // By `try_fold` it was tried, and its one goal did not close.
     for byte in text {
         let one = digit(*byte, base)?;
-        value = value.checked_mul(base.into())?.checked_add(one.into())?;
+        value = value
+            .checked_mul(base.radix().into())?
+            .checked_add(one.into())?;
     }
     Some(value)
 }

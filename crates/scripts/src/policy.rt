@@ -1,6 +1,6 @@
 //! How a policy is shown.
-ghost use Rattle.std.specs.Prelude.{◌≡◌, ◌^◌, ◌++◌, OnOk};
-ghost use Rattle.scripts.specs.Policies.{spaced, sets_text, type_line, type_lines, figure_line, figure_lines, book_text};
+ghost use Rattle.std.specs.Prelude.{◌≡◌, ℕ, List, ◌≤◌, ◌<◌, ◌^◌, ◌++◌, OnOk};
+ghost use Rattle.scripts.specs.Policies.{Says, texts, spaced, line, sets_text, type_line, type_lines, figure_line, figure_lines, book_text};
 
 use crate::spelled::Spelled;
 use crate::transcript::Transcript;
@@ -19,13 +19,27 @@ impl Transcript {
     fn say_level<S: Spelled>(&mut self, level: Option<S::Value>) -> Result<(), AllocError>
         ensures { OnOk result (self.new ≡ self.old ++ spaced S.Spelled.text level) }
     {
-        match level {
-            None => Ok(()),
-            Some(level) => {
-                self.say(" ")?;
-                S::say(level, self)
-            }
+        let Some(level) = level else {
+            return Ok(());
+        };
+        self.say(" ")?;
+        S::say(level, self)
+    }
+
+    // Says what `say` says of each number below `n`, in order.
+    fn say_each<F: Fn(&mut Transcript, u8) -> Result<(), AllocError>>(
+        &mut self,
+        n: u16,
+        say: F,
+    ) -> Result<(), AllocError>
+        requires few { n ≤ 256 }
+        requires called { F.IsAlwaysCallable say }
+        ensures { (text : ℕ → List ℕ) → ((i : ℕ) → i < n → Says (λ old. F.post say old i) (text i)) → OnOk result (self.new ≡ self.old ++ texts text n) }
+    {
+        for i in 0..n {
+            say(self, i as u8)?;
         }
+        Ok(())
     }
 
     // The levels of a type at each set.
@@ -36,62 +50,24 @@ impl Transcript {
     ) -> Result<(), AllocError>
         ensures { OnOk result (self.new ≡ self.old ++ sets_text S.Spelled.text (B.TypeBook.meaning book.now) ty (2 ^ (B.TypeBook.meaning book.now).permissions)) }
     {
-        for set in 0..sets(book) {
-            self.say_level::<S>(book.level(ty, set))?;
-        }
-        Ok(())
+        self.say_each(sets(book).into(), |transcript, set| {
+            transcript.say_level::<S>(book.level(ty, set))
+        })
     }
 
-    // The line of a type.
-    fn say_type<S: Spelled, B: TypeBook<Level = S::Value>>(
+    // A line: what is numbered, its number, and what `say` says of it.
+    fn say_line<F: FnOnce(&mut Transcript) -> Result<(), AllocError>>(
         &mut self,
-        book: &B,
-        ty: u8,
+        what: &str,
+        number: u8,
+        say: F,
     ) -> Result<(), AllocError>
-        ensures { OnOk result (self.new ≡ self.old ++ type_line S.Spelled.text (B.TypeBook.meaning book.now) ty) }
+        requires { F.IsAlwaysCallable say }
+        ensures { (text : List ℕ) → Says (F.post say) text → OnOk result (self.new ≡ self.old ++ line what.now number text) }
     {
-        self.say(format_args!("type {ty}:"))?;
-        self.say_sets::<S, B>(book, ty)?;
+        self.say(format_args!("{what} {number}:"))?;
+        say(self)?;
         self.say("\n")
-    }
-
-    // The lines of the types.
-    fn say_types<S: Spelled, B: TypeBook<Level = S::Value>>(
-        &mut self,
-        book: &B,
-    ) -> Result<(), AllocError>
-        ensures { OnOk result (self.new ≡ self.old ++ type_lines S.Spelled.text (B.TypeBook.meaning book.now) (B.TypeBook.meaning book.now).types) }
-    {
-        for ty in 0..book.types() {
-            self.say_type::<S, B>(book, ty as u8)?;
-        }
-        Ok(())
-    }
-
-    // The line of a figure.
-    fn say_figure<S: Spelled, B: TypeBook<Level = S::Value>>(
-        &mut self,
-        book: &B,
-        figure: u8,
-    ) -> Result<(), AllocError>
-        ensures { OnOk result (self.new ≡ self.old ++ figure_line S.Spelled.text (B.TypeBook.meaning book.now) figure) }
-    {
-        self.say(format_args!("figure {figure}:"))?;
-        self.say_level::<S>(book.figure_level(figure))?;
-        self.say("\n")
-    }
-
-    // The lines of the figures. With the types they would share a `for` of one call, and a closure for it is no plainer.
-    fn say_figures<S: Spelled, B: TypeBook<Level = S::Value>>(
-        &mut self,
-        book: &B,
-    ) -> Result<(), AllocError>
-        ensures { OnOk result (self.new ≡ self.old ++ figure_lines S.Spelled.text (B.TypeBook.meaning book.now) (B.TypeBook.meaning book.now).figures) }
-    {
-        for figure in 0..book.figures() {
-            self.say_figure::<S, B>(book, figure)?;
-        }
-        Ok(())
     }
 
     /// Shows a book: a line for each type, with its level at each set in order, and a line for each figure.
@@ -101,7 +77,13 @@ impl Transcript {
     ) -> Result<(), AllocError>
         ensures { OnOk result (self.new ≡ self.old ++ book_text S.Spelled.text (B.TypeBook.meaning book.now)) }
     {
-        self.say_types::<S, B>(book)?;
-        self.say_figures::<S, B>(book)
+        self.say_each(book.types(), |transcript, ty| {
+            transcript.say_line("type", ty, |line| line.say_sets::<S, B>(book, ty))
+        })?;
+        self.say_each(book.figures().into(), |transcript, figure| {
+            transcript.say_line("figure", figure, |line| {
+                line.say_level::<S>(book.figure_level(figure))
+            })
+        })
     }
 }

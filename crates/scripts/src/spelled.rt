@@ -102,6 +102,7 @@ impl<A: Spelled, B: Spelled> Spelled for Either<A, B> {
     ghost text = { λ value. by_choice A.Spelled.text B.Spelled.text value };
 
     fn spelled<'a>(&self, numbers: &'a [u32]) -> Option<(Either<A::Value, B::Value>, &'a [u32])> {
+        // By arms: with `map` in each the borrow checker has no proof of it yet.
         match self {
             Either::Left(s) => {
                 let (level, rest) = s.spelled(numbers)?;

@@ -21,7 +21,7 @@ pub fn without_comment(line: &[u8]) -> &[u8]
     cut(line, b'#').0
 }
 
-/// Whether a word is this text.
+/// Whether a word is this text. A text in the code is an array, which `==` with a word refuses.
 pub fn says(word: &[u8], text: &[u8]) -> bool
     ensures { result ≡ bytes_eq word.now text.now }
 {

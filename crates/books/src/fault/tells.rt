@@ -10,6 +10,7 @@ use std::alloc::AllocError;
 impl Fault for BookFault {
     ghost tells = { book_refusal };
 
+    // The number is the format's.
     fn refusal(&self) -> Refusal {
         match self {
             BookFault::Misfit => Refusal::broken(3, Place::Whole),

@@ -1,5 +1,5 @@
 //! The four mistakes that keep marks from being a lattice.
-ghost use Rattle.std.specs.Prelude.{◌≡◌, ℕ, Bool};
+ghost use Rattle.std.specs.Prelude.{◌≡◌, ℕ, Bool, length};
 ghost use Rattle.levels.specs.Scan.{Tells};
 ghost use Rattle.levels.specs.Marks.{unmarked, mutual_marks, broken_chain, no_bound, some_level, is_lattice};
 
@@ -10,7 +10,7 @@ impl<'a> Marks<'a> {
     // Whether a test passes at some level.
     fn some_level<F: Fn(u16) -> bool>(self, test: F) -> bool
         requires { F.IsAlwaysCallable test }
-        ensures { (passes : ℕ → Bool) → Tells (F.post test) passes → result ≡ some_level self.entry.rows.now passes }
+        ensures { (passes : ℕ → Bool) → Tells (length self.entry.rows.now) (F.post test) passes → result ≡ some_level self.entry.rows.now passes }
     {
         lowest(self.count(), test).is_some()
     }

@@ -1,5 +1,5 @@
 //! An order table as a lattice, and what its faults tell.
-ghost use Rattle.std.specs.Prelude.{◌≡◌, ◌<◌, ◌&&◌, [], slice_index, slice_index_or};
+ghost use Rattle.std.specs.Prelude.{◌≡◌, ◌&&◌, cond, [], slice_index, slice_index_or};
 ghost use Rattle.levels.specs.Tables.{rank, table_order, table_refusal, rows_of};
 ghost use Rattle.levels.specs.Exact.{some_rows};
 ghost use Rattle.levels.specs.RankLaws.{rank_laws};
@@ -12,6 +12,7 @@ use crate::table::{OrderTable, Rank, TableFault};
 impl Fault for TableFault {
     ghost tells = { table_refusal };
 
+    // The numbers are the format's.
     fn refusal(&self) -> Refusal {
         match self {
             TableFault::Shape => Refusal::broken(1, Place::Whole),
@@ -35,21 +36,12 @@ impl Lattice for OrderTable {
         self.marks().marked(a.number as u16, b.number as u16)
     }
 
-    // Join and meet differ in the table alone, and look it up by `held`.
     fn join(&self, a: Rank, b: Rank) -> Rank {
-        if self.are_levels(a, b) {
-            held(&self.joins, a, b)
-        } else {
-            self.lowest()
-        }
+        self.held(&self.joins, a, b)
     }
 
     fn meet(&self, a: Rank, b: Rank) -> Rank {
-        if self.are_levels(a, b) {
-            held(&self.meets, a, b)
-        } else {
-            self.lowest()
-        }
+        self.held(&self.meets, a, b)
     }
 
     fn lowest(&self) -> Rank {
@@ -61,21 +53,23 @@ impl Lattice for OrderTable {
     }
 }
 
-// What a table of bounds holds for two levels.
-fn held(bounds: &[[u8; 16]; 16], a: Rank, b: Rank) -> Rank
-    requires { (a.number < 16) × (b.number < 16) }
-    ensures { result ≡ rank (slice_index (slice_index_or bounds.now a.number []) b.number) }
-{
-    Rank {
-        number: bounds[a.number as usize][b.number as usize],
-    }
-}
-
 impl OrderTable {
     fn are_levels(&self, a: Rank, b: Rank) -> bool
         ensures { result ≡ ((table_order self.now).is_level a && (table_order self.now).is_level b) }
     {
         self.is_level(a) && self.is_level(b)
+    }
+
+    // What a table of bounds holds for two levels, and the lowest level where one of them is none.
+    fn held(&self, bounds: &[[u8; 16]; 16], a: Rank, b: Rank) -> Rank
+        ensures { result ≡ cond ((table_order self.now).is_level a && (table_order self.now).is_level b) (rank (slice_index (slice_index_or bounds.now a.number []) b.number)) (table_order self.now).low }
+    {
+        if !self.are_levels(a, b) {
+            return self.lowest();
+        }
+        Rank {
+            number: bounds[a.number as usize][b.number as usize],
+        }
     }
 
     // The rows that the table was made of.

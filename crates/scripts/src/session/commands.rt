@@ -25,11 +25,7 @@ impl Session {
         Session {
             heap,
             draft: None,
-            source: OwnedLists {
-                nodes: Vec::new(heap),
-                functions: Vec::new(heap),
-                apps: Vec::new(heap),
-            },
+            source: OwnedLists::new(heap),
             tally: Tally {
                 scenarios: 0,
                 made: 0,
@@ -83,8 +79,7 @@ impl Session {
         ensures { Does (Acts (Levels owner)) self.old (words_left words.entry) result self.new }
     {
         let draft = self.draft.as_mut().ok_or(ScriptFault::WantsLattice)?;
-        draft.add_levels(owner, words)?;
-        Ok(())
+        draft.add_levels(owner, words)
     }
 
     pub fn policy(&mut self, words: Words<'_>) -> Result<(), ScriptFault>

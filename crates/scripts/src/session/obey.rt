@@ -6,7 +6,7 @@ ghost use Rattle.scripts.specs.Words.{words_left};
 
 use crate::draft::Owner;
 use crate::fault::ScriptFault;
-use crate::session::{Command, Section, Session};
+use crate::session::{Command, Section, Session, Tally};
 use crate::transcript::Transcript;
 use crate::words::{Words, says, without_comment};
 use std::alloc::AllocError;
@@ -78,9 +78,11 @@ impl Session {
     pub fn close(&mut self) -> Result<(), AllocError>
         ensures { OnOk result (self.new.transcript ≡ self.old.transcript ++ closing (scene self.old)) }
     {
-        let scenarios = self.tally.scenarios;
-        let made = self.tally.made;
-        let refused = self.tally.refused;
+        let Tally {
+            scenarios,
+            made,
+            refused,
+        } = self.tally;
         self.transcript.say(format_args!(
             "done: {scenarios} scenarios, {made} policies made and {refused} refused, 0 programs accepted and 0 refused, 0 runs with a result and 0 cut\n"
         ))
