@@ -31,6 +31,7 @@ fn record(list: &[u8], g: u16) -> Function
     ensures { result ≡ record_at list.now g }
 {
     let at = 24 * g as usize;
+    // As many types as the format has, always.
     let mut types = [0; 16];
     types.copy_from_slice(&list[at + 8..at + 24]);
     Function {
@@ -107,6 +108,7 @@ impl Entry<24> for Function {
             0,
             0,
         ];
+        // As many bytes as the format has, always.
         let mut bytes = [0; 24];
         bytes[..8].copy_from_slice(&head);
         bytes[8..].copy_from_slice(&self.types);

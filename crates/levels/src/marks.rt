@@ -59,6 +59,7 @@ impl<'a> Marks<'a> {
     pub fn table(self) -> [u16; 16]
         ensures { take (length self.entry.rows.now) result ≡ self.entry.rows.now }
     {
+        // Fixed memory: a table wants no heap.
         let mut table = [0; 16];
         table[..self.rows.len()].copy_from_slice(self.rows);
         table

@@ -2,6 +2,7 @@
 ghost use Rattle.std.specs.Prelude.{◌≡◌, ℕ, Bool, ◌<◌, IfSome};
 ghost use Rattle.levels.specs.Scan.{Tells, every, lowest};
 
+// The premise of each is what the language asks of a function that calls a closure.
 /// The lowest number below `n` at which the test passes.
 pub fn lowest<F: Fn(u16) -> bool>(n: u16, test: F) -> Option<u16>
     requires { F.IsAlwaysCallable test }

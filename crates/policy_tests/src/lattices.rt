@@ -9,6 +9,7 @@ use std::test::Fail;
 
 // What the making of a table answers: `made`, or what the fault tells.
 fn making(heap: Global, rows: &[u16]) -> Result<String, Fail> {
+    // By arms: of a table that was made nothing is told but that it was, so no method of `Result` is plainer.
     match OrderTable::new(rows) {
         Ok(_) => Ok(String::from_str(heap, "made")?),
         Err(fault) => Ok(fault.refusal().to_string(heap)?),

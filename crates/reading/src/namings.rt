@@ -26,6 +26,7 @@ impl<'a> Bytes<'a> {
         requires { F.IsAlwaysCallable step }
         ensures { (f : T → ℕ → T) → Steps (F.post step) f → (j : ℕ) → j < 4096 → slice_index_or result j start ≡ folded f start (code_of self.now) (length (code_of self.now).nodes) j }
     {
+        // Fixed memory: the verdict wants no heap.
         let mut each = [start; 4096];
         // By number: nodes are decoded as they are asked for, since the verdict has no heap for a list of them.
         for i in 0..self.node_count() {

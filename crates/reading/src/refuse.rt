@@ -8,6 +8,7 @@ ghost use Rattle.reading.specs.ReadingRefusal.{told, Names};
 use crate::fault::ReadingFault;
 use levels::scan::lowest;
 
+// Called once for each rule, since each is named apart, for its own verdict in the specs.
 /// Refuses with the fault of the lowest place below n at which a rule is broken, if there is one.
 pub fn refuse_where<F: Fn(u16) -> bool, G: Fn(u16) -> ReadingFault>(
     n: u16,

@@ -52,6 +52,7 @@ fn group(heap: Global, text: &str) -> anyhow::Result<Vec<u8>> {
 }
 
 // Adds a number to another of as many bytes, the highest first.
+// Byte by byte with a carry: numbers here are of any length, for which no type of the library stands.
 fn add(number: &mut [u8], step: &[u8]) {
     let mut carry = 0u16;
     for (byte, more) in number.iter_mut().zip(step).rev() {

@@ -36,6 +36,7 @@ impl Transcript {
         requires called { F.IsAlwaysCallable say }
         ensures { (text : ℕ → List ℕ) → ((i : ℕ) → i < n → Says (λ old. F.post say old i) (text i)) → OnOk result (self.new ≡ self.old ++ texts text n) }
     {
+        // By number: a book is asked for its levels by number, and has no list of them.
         for i in 0..n {
             say(self, i as u8)?;
         }

@@ -8,6 +8,7 @@ use crate::scan::{every, lowest};
 use std::array;
 
 impl<'a> Marks<'a> {
+    // The way and the levels are not a struct: one would be made at each call, no plainer.
     // Whether d, if it lies past both a and b, lies past c.
     fn follows(self, up: bool, a: u16, b: u16, c: u16, d: u16) -> bool
         ensures { result ≡ follows up self.entry.rows.now a b c d }

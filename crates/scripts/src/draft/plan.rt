@@ -15,6 +15,7 @@ impl TryFrom<&[u8]> for BookKind {
     ghost try_from_gives = { λ word r. r ≡ kind_of word.now };
 
     fn try_from(word: &[u8]) -> Result<BookKind, ScriptFault> {
+        // Here alone is a word turned into a kind: no derive reads a variant from a text.
         match word {
             b"row" => Ok(BookKind::Row),
             b"fixed" => Ok(BookKind::Fixed),

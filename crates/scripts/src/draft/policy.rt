@@ -42,6 +42,7 @@ fn say_made<S: Spelled, B: TypeBook<Level = S::Value> + Drop>(
     }
 }
 
+// The lists are for the making and the transcript for its reader: together only here, so no struct would be plainer.
 // Makes a book of lists and shows it.
 fn say_lists<S: Spelled, A: Arrangement>(
     heap: Global,

@@ -65,6 +65,7 @@ impl Session {
         let Some(word) = words.next() else {
             return Ok(());
         };
+        // By `says`, as the commands above.
         if says(word, b"scenario") {
             return self.scenario(words);
         }
