@@ -60,12 +60,6 @@ impl From<Operator> for u8 {
 }
 
 impl Operands {
-    fn new(code: u8, a: u8, b: u16, c: u16, d: u16) -> Operands
-        ensures { result ≡ (record { code = code; a = a; b = b; c = c; d = d }) }
-    {
-        Operands { code, a, b, c, d }
-    }
-
     fn expression(self) -> Option<Expression>
         ensures { result ≡ expression_of self }
     {
@@ -146,20 +140,17 @@ impl TryFrom<Operands> for Node {
 impl From<Expression> for Operands {
     ghost from_gives = { λ e r. r ≡ expression_operands e };
 
+    // The struct is made once, here and below: to make it in each arm, by a function, took half as much time again for the
+    // writing of a program.
     fn from(e: Expression) -> Operands {
-        match e {
+        let (code, a, b, c, d) = match e {
             // In two halves, as it is read.
-            Expression::Constant(v) => Operands::new(
-                0x01,
-                0,
-                0,
-                (v / 65536) as u16,
-                (v % 65536) as u16,
-            ),
-            Expression::Slot(slot) => Operands::new(0x02, slot, 0, 0, 0),
-            Expression::Figure(figure) => Operands::new(0x03, figure, 0, 0, 0),
-            Expression::Operation(operator, b, c) => Operands::new(u8::from(operator), 0, b, c, 0),
-        }
+            Expression::Constant(v) => (0x01, 0, 0, (v / 65536) as u16, (v % 65536) as u16),
+            Expression::Slot(slot) => (0x02, slot, 0, 0, 0),
+            Expression::Figure(figure) => (0x03, figure, 0, 0, 0),
+            Expression::Operation(operator, b, c) => (u8::from(operator), 0, b, c, 0),
+        };
+        Operands { code, a, b, c, d }
     }
 }
 
@@ -167,29 +158,30 @@ impl From<Command> for Operands {
     ghost from_gives = { λ e r. r ≡ command_operands e };
 
     fn from(e: Command) -> Operands {
-        match e {
-            Command::Nothing => Operands::new(0x20, 0, 0, 0, 0),
-            Command::SetSlot { slot, value } => Operands::new(0x21, slot, value, 0, 0),
-            Command::SetFigure { figure, value } => Operands::new(0x22, figure, value, 0, 0),
+        let (code, a, b, c, d) = match e {
+            Command::Nothing => (0x20, 0, 0, 0, 0),
+            Command::SetSlot { slot, value } => (0x21, slot, value, 0, 0),
+            Command::SetFigure { figure, value } => (0x22, figure, value, 0, 0),
             Command::If {
                 condition,
                 first,
                 second,
-            } => Operands::new(0x23, 0, condition, first, second),
-            Command::While { condition, part } => Operands::new(0x24, 0, condition, part, 0),
-            Command::Then { first, second } => Operands::new(0x25, 0, first, second, 0),
-            Command::Let { slot, value, part } => Operands::new(0x26, slot, value, part, 0),
+            } => (0x23, 0, condition, first, second),
+            Command::While { condition, part } => (0x24, 0, condition, part, 0),
+            Command::Then { first, second } => (0x25, 0, first, second, 0),
+            Command::Let { slot, value, part } => (0x26, slot, value, part, 0),
             Command::Call {
                 slot,
                 function,
                 arguments,
-            } => Operands::new(0x27, slot, function, link(arguments), 0),
+            } => (0x27, slot, function, link(arguments), 0),
             Command::Test {
                 permission,
                 first,
                 second,
-            } => Operands::new(0x28, permission, first, second, 0),
-        }
+            } => (0x28, permission, first, second, 0),
+        };
+        Operands { code, a, b, c, d }
     }
 }
 
@@ -200,7 +192,13 @@ impl From<Node> for Operands {
         match node {
             Node::Expression(e) => Operands::from(e),
             Node::Command(e) => Operands::from(e),
-            Node::Argument { value, next } => Operands::new(0x30, 0, value, link(next), 0),
+            Node::Argument { value, next } => Operands {
+                code: 0x30,
+                a: 0,
+                b: value,
+                c: link(next),
+                d: 0,
+            },
         }
     }
 }

@@ -9,7 +9,9 @@ pub fn lowest<F: Fn(u16) -> bool>(n: u16, test: F) -> Option<u16>
     ensures first { (passes : ℕ → Bool) → Tells n (F.post test) passes → result ≡ lowest n passes }
     ensures below { IfSome result (λ i. i < n) }
 {
-    (0..n).find(|i| test(*i))
+    // Handed on by name, so that a must-fail edit can hand on another place.
+    let i = (0..n).find(|i| test(*i))?;
+    Some(i)
 }
 
 /// Whether the test passes at every number below `n`.

@@ -1,5 +1,5 @@
 //! The functions of byte lists, decoded once.
-ghost use Rattle.std.specs.Prelude.{◌≡◌, ℕ, slice_index_or};
+ghost use Rattle.std.specs.Prelude.{◌≡◌, ◌<◌, ℕ, slice_index_or};
 ghost use Rattle.layout.specs.Code.{no_function, function, body, start};
 ghost use Rattle.reading.specs.Meaning.{code_of};
 
@@ -20,8 +20,22 @@ impl<'a> Functions<'a> {
     pub fn new(bytes: Bytes<'a>) -> Functions<'a>
         ensures { result.bytes ≡ bytes.entry }
     {
-        let functions = array::from_fn(|g| bytes.function(g as u16));
-        Functions { bytes, functions }
+        Functions {
+            bytes,
+            // Only what is there is decoded: most programs have few of the sixty-four.
+            functions: array::from_fn(
+                |g|
+                    requires { g < 64 }
+                    ensures { result ≡ function (code_of bytes.entry) g }
+                {
+                    if (g as u16) < bytes.function_count() {
+                        bytes.function(g as u16)
+                    } else {
+                        Function::absent()
+                    }
+                },
+            ),
+        }
     }
 
     pub fn function(&self, g: u16) -> Function

@@ -1,5 +1,5 @@
 //! Rule 9, of how often each node is named.
-ghost use Rattle.std.specs.Prelude.{◌≡◌, ℕ, ◌<◌, length, slice_index};
+ghost use Rattle.std.specs.Prelude.{◌≡◌, ℕ, ◌<◌, length, replicate, slice_index};
 ghost use Rattle.levels.specs.Scan.{lowest};
 ghost use Rattle.layout.specs.Tree.{namings};
 ghost use Rattle.reading.specs.Meaning.{code_of};
@@ -14,21 +14,23 @@ use crate::owners::Owners;
 use crate::refuse::refuse_where;
 
 impl<'a> Bytes<'a> {
-    // How often each node is named.
-    fn marks(&self) -> [u16; 4096]
-        ensures { (j : ℕ) → j < 4096 → slice_index result j ≡ namings (code_of self.now) (length (code_of self.now).nodes) j }
+    // How often each node is named, into marks that are 0. They are filled in where they lie, as parents and scopes are:
+    // an array that is handed out is copied, and again where it is kept.
+    fn marks(&self, marks: &mut [u16; 4096])
+        requires { marks.old ≡ replicate 4096 0 }
+        ensures { (j : ℕ) → j < 4096 → slice_index marks.new j ≡ namings (code_of self.now) (length (code_of self.now).nodes) j }
     {
-        self.by_namings(0, |n, _| n.saturating_add(1))
+        self.by_namings(marks, |n, _| n.saturating_add(1));
     }
 }
 
 // How often each node of a tree is named.
-#[derive(Drop)]
+#[derive(Clone, Copy)]
 struct Marks<'t, 'a> {
     tree: &'t Owners<'a>,
-    // Fixed memory: the verdict wants no heap.
-    marks: [u16; 4096],
-    ghost counted: { (j : ℕ) → j < 4096 → slice_index marks j ≡ namings (tree_code tree.now) (length (tree_code tree.now).nodes) j },
+    // Lent: to move them would be to copy them.
+    marks: &'t [u16; 4096],
+    ghost counted: { (j : ℕ) → j < 4096 → slice_index marks.now j ≡ namings (tree_code tree.now) (length (tree_code tree.now).nodes) j },
 }
 
 impl<'t, 'a> Marks<'t, 'a> {
@@ -43,20 +45,17 @@ impl<'t, 'a> Marks<'t, 'a> {
 }
 
 impl<'a> Owners<'a> {
-    fn marks(&self) -> Marks<'_, 'a>
-        ensures { result.tree.now ≡ self.now }
-    {
-        Marks {
-            tree: self,
-            marks: self.functions.bytes.marks(),
-        }
-    }
-
     /// Refuses the lowest node that breaks rule 9.
     pub fn named_once(&self) -> Result<(), ReadingFault>
         ensures { told result ≡ rule9 (tree_code self.now) }
     {
-        let marks = self.marks();
+        // Fixed memory, here and below: the verdict wants no heap.
+        let mut counts = [0; 4096];
+        self.functions.bytes.marks(&mut counts);
+        let marks = Marks {
+            tree: self,
+            marks: &counts,
+        };
         let n = self.functions.bytes.node_count();
         refuse_where(n, |j| marks.breaks_once(j), ReadingFault::NotNamedOnce)
     }

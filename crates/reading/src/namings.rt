@@ -21,20 +21,17 @@ fn note<T: Copy, F: Fn(T, u16) -> T>(each: &mut [T; 4096], part: Option<Part>, i
 }
 
 impl<'a> Bytes<'a> {
-    /// What each node comes to from a start, by a step for each naming of it, in the order of the nodes that name.
-    pub fn by_namings<T: Copy, F: Fn(T, u16) -> T>(&self, start: T, step: F) -> [T; 4096]
+    /// Takes what stands at each node a step on for each naming of the node, in the order of the nodes that name.
+    pub fn by_namings<T: Copy, F: Fn(T, u16) -> T>(&self, each: &mut [T; 4096], step: F)
         requires { F.IsAlwaysCallable step }
-        ensures { (f : T → ℕ → T) → Steps (F.post step) f → (j : ℕ) → j < 4096 → slice_index_or result j start ≡ folded f start (code_of self.now) (length (code_of self.now).nodes) j }
+        ensures { (f : T → ℕ → T) → Steps (F.post step) f → (j : ℕ) (d : T) → j < 4096 → slice_index_or each.new j d ≡ folded f (slice_index_or each.old j d) (code_of self.now) (length (code_of self.now).nodes) j }
     {
-        // Fixed memory: the verdict wants no heap.
-        let mut each = [start; 4096];
         // By number: nodes are decoded as they are asked for, since the verdict has no heap for a list of them.
         for i in 0..self.node_count() {
             let parts = self.node(i).parts();
-            note(&mut each, parts.0, i, &step);
-            note(&mut each, parts.1, i, &step);
-            note(&mut each, parts.2, i, &step);
+            note(each, parts.0, i, &step);
+            note(each, parts.1, i, &step);
+            note(each, parts.2, i, &step);
         }
-        each
     }
 }

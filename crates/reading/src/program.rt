@@ -3,6 +3,7 @@ ghost use Rattle.layout.specs.Code.{code};
 ghost use Rattle.reading.specs.Sound.{Sound};
 
 use layout::function::Function;
+use layout::lists::OwnedLists;
 use layout::node::Node;
 
 pub mod access;
@@ -19,3 +20,6 @@ pub struct Program {
     apps: Vec<u8>,
     ghost sound: { Sound (code nodes.items functions.items apps.items) },
 }
+
+/// A program written into bytes.
+pub type Written = OwnedLists;

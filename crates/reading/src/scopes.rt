@@ -1,5 +1,5 @@
 //! Rule 10, of where slots may be used.
-ghost use Rattle.std.specs.Prelude.{◌≡◌, ℕ, ◌<◌, false, length, None, slice_index, slice_index_or};
+ghost use Rattle.std.specs.Prelude.{◌≡◌, ℕ, ◌<◌, false, length, None, replicate, slice_index, slice_index_or};
 ghost use Rattle.levels.specs.Scan.{lowest};
 ghost use Rattle.reading.specs.Meaning.{code_of};
 ghost use Rattle.reading.specs.ScopeRule.{parent, adding, holds, within_command, within, scope, usable};
@@ -38,38 +38,41 @@ fn within(node: Node, j: u16, set: u16) -> u16
 }
 
 impl<'a> Bytes<'a> {
-    // The node that names each node.
-    fn parents(&self) -> [Option<u16>; 4096]
-        ensures { (j : ℕ) → j < 4096 → slice_index_or result j None ≡ parent (code_of self.now) (length (code_of self.now).nodes) j }
+    // The node that names each node, into a list where none does.
+    fn parents(&self, parents: &mut [Option<u16>; 4096])
+        requires { parents.old ≡ replicate 4096 None }
+        ensures { (j : ℕ) → j < 4096 → slice_index_or parents.new j None ≡ parent (code_of self.now) (length (code_of self.now).nodes) j }
     {
-        self.by_namings(None, |_, i| Some(i))
+        self.by_namings(parents, |_, i| Some(i));
     }
 }
 
 impl<'t, 'a> Named<'t, 'a> {
-    // The locals usable at each node.
-    fn scopes(&self) -> [u16; 4096]
-        ensures { (j : ℕ) → j < length (tree_code self.now.tree.now).nodes → slice_index result j ≡ scope (tree_code self.now.tree.now) (length (tree_code self.now.tree.now).nodes) j }
+    // The locals usable at each node, into a list where none is.
+    fn scopes(&self, scopes: &mut [u16; 4096])
+        requires { scopes.old ≡ replicate 4096 0 }
+        ensures { (j : ℕ) → j < length (tree_code self.now.tree.now).nodes → slice_index scopes.new j ≡ scope (tree_code self.now.tree.now) (length (tree_code self.now.tree.now).nodes) j }
     {
         let bytes = self.tree.functions.bytes;
-        let parents = bytes.parents();
-        let mut scopes = [0; 4096];
+        let mut parents = [None; 4096];
+        bytes.parents(&mut parents);
         // By number: each place is worked out from that of the node that names it.
         for j in (0..bytes.node_count()).rev() {
             if let Some(p) = parents[j as usize] {
                 scopes[j as usize] = within(bytes.node(p), j, scopes[p as usize]);
             }
         }
-        scopes
     }
 
     /// Refuses the lowest node that breaks rule 10.
     pub fn scopes_fit(&self) -> Result<(), ReadingFault>
         ensures { told result ≡ rule10 (tree_code self.now.tree.now) }
     {
+        let mut usable = [0; 4096];
+        self.scopes(&mut usable);
         let scopes = Scopes {
             tree: self.tree,
-            scopes: self.scopes(),
+            scopes: &usable,
         };
         let n = self.tree.functions.bytes.node_count();
         refuse_where(n, |i| scopes.breaks_scope(i), ReadingFault::OutOfScope)
@@ -77,12 +80,12 @@ impl<'t, 'a> Named<'t, 'a> {
 }
 
 // The locals usable at each node of a tree. Not one type with the marks: what is known of the numbers differs.
-#[derive(Drop)]
+#[derive(Clone, Copy)]
 struct Scopes<'t, 'a> {
     tree: &'t Owners<'a>,
-    // Fixed memory: the verdict wants no heap.
-    scopes: [u16; 4096],
-    ghost filled: { (j : ℕ) → j < length (tree_code tree.now).nodes → slice_index scopes j ≡ scope (tree_code tree.now) (length (tree_code tree.now).nodes) j },
+    // Lent, as the marks.
+    scopes: &'t [u16; 4096],
+    ghost filled: { (j : ℕ) → j < length (tree_code tree.now).nodes → slice_index scopes.now j ≡ scope (tree_code tree.now) (length (tree_code tree.now).nodes) j },
 }
 
 impl<'t, 'a> Scopes<'t, 'a> {

@@ -55,7 +55,9 @@ fn group(heap: Global, text: &str) -> anyhow::Result<Vec<u8>> {
 // Byte by byte with a carry: numbers here are of any length, for which no type of the library stands.
 fn add(number: &mut [u8], step: &[u8]) {
     let mut carry = 0u16;
-    for (byte, more) in number.iter_mut().zip(step).rev() {
+    // As many bytes of each, and both from the end: a `zip` turned round would first skip what the longer has more.
+    let n = number.len().min(step.len());
+    for (byte, more) in number[..n].iter_mut().rev().zip(step[..n].iter().rev()) {
         let sum = (*byte as u16 + *more as u16).wrapping_add(carry);
         *byte = (sum % 256) as u8;
         carry = sum / 256;

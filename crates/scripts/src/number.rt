@@ -33,9 +33,9 @@ fn digits(text: &[u8], base: Base) -> Option<u32>
     // By `try_fold` it was tried, and its one goal did not close.
     for byte in text {
         let one = digit(*byte, base)?;
-        value = value
-            .checked_mul(base.radix().into())?
-            .checked_add(one.into())?;
+        // In 64 bits, where to ask once whether there is room suffices: `checked_mul` and `checked_add` ask twice.
+        let longer = u64::from(value) * u64::from(base.radix()) + u64::from(one);
+        value = u32::try_from(longer).ok()?;
     }
     Some(value)
 }

@@ -36,13 +36,16 @@ pub struct Tally {
     refused: u64,
 }
 
+/// The three byte lists of a program.
+pub type Source = OwnedLists;
+
 /// A script that is being obeyed.
 #[derive(Drop)]
 pub struct Session {
     heap: Global,
     // The lattice that was made, with the book that was chosen over it.
     draft: Option<Draft>,
-    source: OwnedLists,
+    source: Source,
     tally: Tally,
     transcript: Transcript,
 }

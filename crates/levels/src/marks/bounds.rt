@@ -5,7 +5,6 @@ ghost use Rattle.levels.specs.Marks.{follows, is_bound, bound, is_end, end};
 
 use crate::marks::Marks;
 use crate::scan::{every, lowest};
-use std::array;
 
 impl<'a> Marks<'a> {
     // The way and the levels are not a struct: one would be made at each call, no plainer.
@@ -46,22 +45,26 @@ impl<'a> Marks<'a> {
         lowest(self.count(), |c| self.is_end(up, c))
     }
 
+    // By index, here and below: `array::from_fn` would go over all sixteen places, and most tables have few levels.
     // The bounds of a level with each level.
     fn bound_row(self, up: bool, a: u16) -> [u8; 16]
         ensures { HoldsRow up self.entry.rows.now a result }
     {
-        array::from_fn(|b| self.bound(up, a, b as u16).unwrap_or(0) as u8)
+        let mut held = [0; 16];
+        for b in 0..self.count() {
+            held[b as usize] = self.bound(up, a, b).unwrap_or(0) as u8;
+        }
+        held
     }
 
     /// The bounds of each two levels.
     pub fn bound_table(self, up: bool) -> [[u8; 16]; 16]
         ensures { HoldsBounds up self.entry.rows.now result }
     {
-        array::from_fn(
-            |a|
-                requires { a < 16 }
-                ensures { HoldsRow up self.entry.rows.now a result }
-            { self.bound_row(up, a as u16) },
-        )
+        let mut held = [[0; 16]; 16];
+        for a in 0..self.count() {
+            held[a as usize] = self.bound_row(up, a);
+        }
+        held
     }
 }

@@ -5,7 +5,7 @@ ghost use Rattle.reading.specs.Copies.{ReadsBack};
 ghost use Rattle.layout.specs.Encoding.{encoded, written_lists};
 ghost use Rattle.reading.specs.Reading.{program_code};
 
-use crate::program::Program;
+use crate::program::{Program, Written};
 use layout::entry::Entry;
 use layout::lists::OwnedLists;
 use std::alloc::{AllocError, Global};
@@ -27,7 +27,7 @@ fn written<const WIDTH: usize, E: Entry<WIDTH>>(
 impl Program {
     /// The three byte lists that the program is; reading them gives it back.
     #[tactic(auto, using(crate::proofs::Programs::program_back))]
-    pub fn write(&self, heap: Global) -> Result<OwnedLists, AllocError>
+    pub fn write(&self, heap: Global) -> Result<Written, AllocError>
         ensures written { IfOk result (λ w. written_lists w ≡ encoded (program_code self.now)) }
         ensures read_back { ReadsBack (program_code self.now) }
     {

@@ -8,6 +8,6 @@ use Rattle.reading.proofs.functions.Functions.new.Goals as goal
 
 pub invariant_of-result : goal.invariant_of-result
 invariant_of-result c =
-    let made = c.from_fn-functions.ensures.items in
+    let made = c.from_fn.ensures.items in
     let it = code_of c.args.bytes in
-    record { held = held_all it c.from_fn-functions.result made.long (omega (arith, length_functions c.args.bytes.lists.functions.now)) (λ g h. made_at _ _ (function it) (λ i y q k. (search rules, search rules)) c.from_fn-functions.result 64 g no_function made h) }
+    record { held = held_all it c.from_fn.result made.long (omega (arith, length_functions c.args.bytes.lists.functions.now)) (λ g h. made_at _ _ (function it) (λ i y q k. (search rules, search rules)) c.from_fn.result 64 g no_function made h) }
